@@ -1,0 +1,110 @@
+-- What the calls of a house promise.
+use Rattle.std.specs.Prelude.{◌≡◌, ℕ, ◌^◌, Bool, true, false, not, if◌then◌else◌, ◌&&◌, ◌||◌, ◌==◌, nat_lt, nat_le, List, [], ◌∷◌, ◌++◌, map, filter, Option, Some, None, Result, Ok, Err, IsTrue}
+use Rattle.std.specs.List.{list_all}
+use Rattle.jsp_wire.specs.declared.ask.Request.{Request}
+use Rattle.jsp_model.specs.declared.state.State.{State}
+use Rattle.jsp_model.specs.declared.state.Outbox.{Outbox}
+use Rattle.jsp_model.specs.declared.step.Step.{Step}
+use Rattle.jsp_model.specs.declared.step.Step.TheVariants as step
+use Rattle.jsp_model.specs.declared.house.Input.{Input}
+use Rattle.jsp_model.specs.declared.house.Input.TheVariants as input
+use Rattle.jsp_model.specs.declared.house.Stopped.{Stopped}
+use Rattle.jsp_model.specs.Lookup.{contains, is_open}
+use Rattle.jsp_model.specs.Due.{due}
+use Rattle.jsp_model.specs.Quiet.{is_quiet, are_quiet}
+use Rattle.jsp_model.specs.Touches.{touches}
+use Rattle.jsp_model.specs.Steps.{next, is_fault}
+use Rattle.jsp_model.specs.Runs.{IsRun, state_after}
+
+-- ---- steps that are asked for
+
+-- a step that a house makes by itself
+abbrev pub is_free : Step → Bool
+is_free (step.Grant blocked rows) = true
+is_free (step.Empty blocked) = true
+is_free (step.Tell registration) = true
+is_free (step.Due item) = true
+is_free _ = false
+
+-- the step without what was chosen in it
+abbrev pub bare : Step → Step
+bare (step.Ask s asked rows) = step.Ask s asked []
+bare step = step
+
+-- the steps that were asked for
+abbrev pub own_of : List Step → List Step
+own_of steps = map bare (filter (λ x. not (is_free x)) steps)
+
+-- the spaces that some step of a run touches
+abbrev pub touched : State → List Step → List ℕ
+touched st [] = []
+touched st (step ∷ steps) = touches st step ++ touched (next st step) steps
+
+-- ---- what a call adds to the log
+
+-- the log gains these steps, a run from the old state to the new one
+pub record Makes (old new : State) (before after steps : List Step) : Type 0 where
+  pub log : after ≡ before ++ steps
+  pub run : IsRun old steps
+  pub view : state_after old steps ≡ new
+
+-- ---- inputs
+
+-- the caller's condition
+abbrev pub is_input : Input → Bool
+is_input (input.Fault s id refusal) = is_fault refusal
+is_input _ = true
+
+-- the step of an input
+abbrev pub step_of : Input → Step
+step_of (input.Open s) = step.Open s
+step_of (input.Clock t) = step.Clock t
+step_of (input.Ask s asked) = step.Ask s asked []
+step_of (input.Fault s id refusal) = step.Fault s id refusal
+
+-- an Open that isn't legal, and what comes from a closed session, is passed over
+abbrev pub accepts : State → Input → Bool
+accepts st (input.Open s) = nat_le 1 s && nat_lt st.last_session s && nat_le s (2 ^ 31)
+accepts st (input.Clock t) = true
+accepts st (input.Ask s asked) = is_open st s
+accepts st (input.Fault s id refusal) = is_open st s
+
+abbrev pub was_done : {A : Type 0} → Result A Stopped → Bool
+was_done (Ok _) = true
+was_done (Err e) = e.done
+
+-- the steps that an act is asked for
+abbrev pub acted : {A : Type 0} → State → Input → Result A Stopped → List Step
+acted st x result = if accepts st x && was_done result then step_of x ∷ [] else []
+
+-- Nothing is due and these spaces are quiet; or the call was stopped, and those that aren't quiet are owed.
+abbrev pub Leaves : {A : Type 0} → Result A Stopped → State → List ℕ → List ℕ → Type 0
+Leaves (Ok _) new spaces owed = (due new ≡ None) × IsTrue (are_quiet new spaces) × (owed ≡ [])
+Leaves (Err e) new spaces owed = IsTrue (list_all (λ p. is_quiet new p || contains owed p) spaces)
+
+-- what an act does: of the steps that it adds, those that were asked for are the input's own
+pub record Acts (old new : State) (owed left : List ℕ) (before after : List Step) (x : Input) (result : Result Unit Stopped) : Type 0 where
+  pub steps : List Step
+  pub makes : Makes old new before after steps
+  pub own : own_of steps ≡ acted old x result
+  pub leaves : Leaves result new (touched old steps ++ owed) left
+
+-- an Open that is stopped isn't done
+abbrev pub OpensNone : {A : Type 0} → Input → Result A Stopped → Type 0
+OpensNone (input.Open s) (Err e) = e.done ≡ false
+OpensNone _ _ = Unit {0}
+
+-- ---- handing out and closing
+
+abbrev pub handed_out : ℕ → ℕ → List Step
+handed_out s n = if n == 0 then [] else step.HandOut s n ∷ []
+
+abbrev pub shuts : State → ℕ → List Step
+shuts st s = if is_open st s then step.Shut s ∷ [] else []
+
+abbrev pub first_box : List Outbox → Option ℕ
+first_box [] = None
+first_box (b ∷ boxes) = Some b.session
+
+abbrev pub first_waiting : State → Option ℕ
+first_waiting st = first_box st.outboxes

@@ -1,0 +1,14 @@
+pub mod Lookup
+pub mod Sight
+pub mod Quiet
+pub mod Due
+pub mod Touches
+pub mod Refusals
+pub mod Changes
+pub mod Answers
+pub mod Steps
+pub mod Runs
+pub mod Config
+pub mod House
+pub mod Image
+pub mod Laws

@@ -1,0 +1,25 @@
+//! The abstract spaces: their state, their steps, and what a house that keeps them promises.
+//!
+//! A house is a state machine. `State` is plain lists; `Step` has every free choice in it; the
+//! definitions in `specs/` say which steps are legal in a state (`Steps`), why a request is refused
+//! (`Refusals`), what a step changes (`Changes`) and says (`Answers`), what is due (`Due`), what a
+//! step touches and when a space is quiet (`Touches`, `Quiet`). A run is a list of steps, each legal
+//! where it stands (`Runs`). `House` is the contract of whatever keeps such a state (`specs/House`),
+//! `Image` a state with the limits of the profile in its type, `Config` the names of the spaces.
+//! docs/SPECIFICATION.md tells the machine in plain words.
+#![tactic(auto)]
+
+mod config;
+mod house;
+mod image;
+mod state;
+mod step;
+
+pub use config::Config;
+pub use house::{House, Input, Stopped, Why};
+pub use image::Image;
+pub use state::{
+    Blocked, Commit, Form, Joined, MatchSet, Outbox, Registration, Row, Session, Space, State,
+    Transaction, Vote,
+};
+pub use step::{Item, Rank, Step};

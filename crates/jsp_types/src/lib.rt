@@ -1,0 +1,24 @@
+//! Values, classes, entries and templates, and when a template matches an entry.
+//!
+//! A class has a parent or none and fields of three kinds; what it inherits comes first and is
+//! never hidden. An entry has a class and a value or null for each of the class's fields. A
+//! template matches the entries of its class and of that class's subclasses that equal each of its
+//! fields that isn't null (JavaSpaces). The contracts cite `specs/Classes.antt` and
+//! `specs/Matching.antt`: a declaration extends the list of classes or leaves it, a check gives the
+//! entry or the first fault that applies, and `matches` is the definition.
+#![tactic(auto)]
+
+mod class;
+mod classes;
+mod entry;
+mod items;
+mod text;
+mod value;
+
+pub use class::{Class, ClassFault};
+pub use classes::Classes;
+pub use entry::{Entry, EntryFault, Raw, Template};
+pub use items::Items;
+pub use std::alloc::AllocError as NoMemory;
+pub use text::Text;
+pub use value::{Kind, Value};

@@ -1,0 +1,108 @@
+//! What a client asks. Entries and templates are as they were written, and aren't checked yet.
+use jsp_types::{Items, Kind, Raw, Text};
+
+/// The version of a line.
+#[derive(Clone, Copy, PartialEq, Eq)]
+pub enum Version {
+    One,
+    Two,
+}
+
+/// A class to be declared. The kind of a field is none where its text names no kind.
+#[derive(Drop)]
+pub struct Declare {
+    pub class: Text,
+    pub parent: Option<Text>,
+    pub fields: Items<(Text, Option<Kind>)>,
+}
+
+/// An entry to be written.
+#[derive(Drop)]
+pub struct Write {
+    pub space: Text,
+    pub entry: Raw,
+    pub lease: i64,
+    pub txn: Option<i64>,
+}
+
+/// Entries to be written together.
+#[derive(Drop)]
+pub struct WriteAll {
+    pub space: Text,
+    pub entries: Items<Raw>,
+    pub lease: i64,
+    pub txn: Option<i64>,
+}
+
+/// An entry to be read or taken.
+#[derive(Drop)]
+pub struct Search {
+    pub space: Text,
+    pub template: Option<Raw>,
+    pub timeout: i64,
+    pub txn: Option<i64>,
+}
+
+/// Entries to be taken together, at most `most`.
+#[derive(Drop)]
+pub struct TakeMany {
+    pub space: Text,
+    pub templates: Items<Option<Raw>>,
+    pub most: u64,
+    pub timeout: i64,
+    pub txn: Option<i64>,
+}
+
+/// A registration for events.
+#[derive(Drop)]
+pub struct Notify {
+    pub space: Text,
+    pub template: Option<Raw>,
+    pub lease: i64,
+    pub handback: Text,
+    pub txn: Option<i64>,
+}
+
+/// A match set to be opened.
+#[derive(Drop)]
+pub struct Contents {
+    pub space: Text,
+    pub template: Option<Raw>,
+    pub lease: i64,
+    pub txn: Option<i64>,
+}
+
+/// One operation.
+#[derive(Drop)]
+pub enum Ask {
+    Declare(Declare),
+    Write(Write),
+    Read(Search),
+    ReadIf(Search),
+    Take(Search),
+    TakeIf(Search),
+    Notify(Notify),
+    Renew { lease: i64, ms: i64 },
+    Cancel { lease: i64 },
+    RenewAll { leases: Items<(i64, i64)> },
+    CancelAll { leases: Items<i64> },
+    Txn { lease: i64 },
+    Commit { txn: i64 },
+    Abort { txn: i64 },
+    State { txn: i64 },
+    Reset { space: Text },
+    Spaces,
+    Bye,
+    Hello { version: Version },
+    WriteAll(WriteAll),
+    TakeMany(TakeMany),
+    Contents(Contents),
+    Next { set: i64, most: u64 },
+    CloseSet { set: i64 },
+}
+/// A request: its id, and what it asks.
+#[derive(Drop)]
+pub struct Request {
+    pub id: u64,
+    pub ask: Ask,
+}

@@ -1,0 +1,52 @@
+//! A request that keeps its limits in its type.
+ghost use Rattle.std.specs.Prelude.{◌≡◌, IsTrue};
+ghost use Rattle.jsp_wire.specs.Limits.{is_within_limits};
+
+use crate::{Ask, Request};
+use std::marker::Model;
+
+/// A request within its limits, of an operation that is built. Contracts see it as the request.
+///
+/// An id is at most 9,223,372,036,854,775,807, a handback has at most 256 bytes, a batch 1 to 64
+/// leases.
+#[derive(Drop)]
+pub struct Asked {
+    request: Request,
+}
+
+impl Model for Asked {
+    ghost use Rattle.std.specs.Prelude.{IsTrue};
+    ghost use Rattle.jsp_wire.specs.declared.ask.Request.{Request};
+    ghost use Rattle.jsp_wire.specs.Limits.{is_within_limits};
+
+    ghost Value = { Request };
+
+    ghost view = { λ a. a.request };
+
+    ghost invariant = { λ a. IsTrue (is_within_limits a.request) };
+}
+
+impl Asked {
+    /// The request, which keeps its limits.
+    pub fn new(request: Request) -> Asked
+        requires { IsTrue (is_within_limits request) }
+        ensures { result ≡ request }
+    {
+        Asked { request }
+    }
+
+    /// The request's id.
+    pub fn id(&self) -> u64
+        ensures { result ≡ self.now.id }
+    {
+        self.request.id
+    }
+
+    /// What it asks.
+    pub fn ask(&self) -> &Ask
+        ensures asked { result.now ≡ self.now.ask }
+        ensures limits { IsTrue (is_within_limits self.now) }
+    {
+        &self.request.ask
+    }
+}
