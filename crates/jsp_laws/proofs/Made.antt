@@ -25,7 +25,7 @@ use Rattle.jsp_model.specs.Lookup.{is_open, joined_of, crash_count, update, cont
 use Rattle.jsp_model.specs.Sight.{available}
 use Rattle.jsp_model.specs.Refusals.{tests, refusal, WriteRequest, RowRequest, one_entry, all_entries, one_row, many_rows, rows_asked, as_blocked, would_block, caller_of, place_of, ms_of, class_asked, renew_tests, number_tests}
 use Rattle.jsp_model.specs.Changes.{open_session, set_version, newly_joined, join, owe, add_row, new_row, write, give, block, give_or_block, register, open_set, close, unread, forget, abort, committed, published, commit, vote_of, is_not_changed, cast, remove, extend, renew, cancel, renew_one, cancel_one, reset, accepted}
-use Rattle.jsp_model.specs.Steps.{is_rising, is_choice, has_its_rows, is_legal, asked, is_too_long, granted_rows, change, next, handed, say}
+use Rattle.jsp_model.specs.Steps.{is_rising, is_choice, has_its_rows, is_legal, asked, is_too_long, granted_rows, change, next, handed, post}
 use Rattle.jsp_model.specs.Answers.{said}
 use Rattle.jsp_model.specs.Due.{due}
 use Rattle.jsp_model.specs.Quiet.{are_quiet}
@@ -342,7 +342,7 @@ pub step_changes : (st : State) (act : Step) → is_legal st act ≡ true → Is
 unfolding next
 step_changes st act e k =
     let after = change st act in
-    both (change_changes st act e k) (one (other after.classes after.spaces after.sessions after.last_session after.time (handed act (fold say st.outboxes (said st act)))))
+    both (change_changes st act e k) (one (other after.classes after.spaces after.sessions after.last_session after.time (handed act (fold post st.outboxes (said st act)))))
 
 pub sound_step : (st : State) (act : Step) → is_legal st act ≡ true → IsSound st → IsSound (next st act)
 sound_step st act e k = sound_changes (step_changes st act e k) k

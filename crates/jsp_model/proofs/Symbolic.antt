@@ -10,17 +10,17 @@ use Rattle.jsp_model.specs.Lookup.{is_open}
 use Rattle.jsp_model.specs.Refusals.{refusal, ms_of}
 use Rattle.jsp_model.specs.Changes.{begin}
 use Rattle.jsp_model.specs.Answers.{said}
-use Rattle.jsp_model.specs.Steps.{next, say}
+use Rattle.jsp_model.specs.Steps.{next, post}
 
 -- a refused request changes the outbox alone
 pub refused_ask : (st : State) (s : ℕ) (a : Request) (r : Refusal) → refusal st s a.id a.ask ≡ Some r → is_open st s ≡ true
-    → next st (step.Ask s a []) ≡ record st { outboxes = say st.outboxes (s, says.Refused (Some a.id) r) }
+    → next st (step.Ask s a []) ≡ record st { outboxes = post st.outboxes (s, says.Refused (Some a.id) r) }
 unfolding next said
 refused_ask st s a r e o = rw (e, o) refl
 
 -- a new transaction
 pub begun : (st : State) (s id : ℕ) (lease : ℤ) → refusal st s id (ask.Txn lease) ≡ None → is_open st s ≡ true
     → next st (step.Ask s (record { id = id; ask = ask.Txn lease }) [])
-    ≡ record (begin st lease) { outboxes = say st.outboxes (s, says.Leased id st.next_number (ms_of lease)) }
+    ≡ record (begin st lease) { outboxes = post st.outboxes (s, says.Leased id st.next_number (ms_of lease)) }
 unfolding next said
 begun st s id lease e o = rw (e, o) refl

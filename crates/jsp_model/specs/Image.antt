@@ -9,8 +9,8 @@ use Rattle.jsp_model.specs.Config.{are_space_names}
 
 -- numbers above the first, below the second, each above the one before it
 abbrev pub are_rising : ℕ → ℕ → List ℕ → Bool
-are_rising low high [] = nat_le low high
-are_rising low high (n ∷ ns) = nat_lt low n && nat_lt n high && are_rising n high ns
+are_rising low high [] = nat_lt low high
+are_rising low high (n ∷ ns) = nat_lt low n && are_rising n high ns
 
 abbrev pub row_numbers : List Row → List ℕ
 row_numbers rows = map (λ r. r.number) rows
@@ -18,6 +18,11 @@ row_numbers rows = map (λ r. r.number) rows
 -- a row of these many spaces, with an end that a lease can have, and an entry within its limits
 abbrev pub is_row : ℕ → Row → Bool
 is_row spaces r = nat_lt r.space spaces && nat_le r.end (2 ^ 62 + 3600000) && is_small r.entry
+
+-- outboxes by session number, and none empty
+abbrev pub are_outboxes : List Outbox → Bool
+are_outboxes [] = true
+are_outboxes (b ∷ boxes) = nat_lt 0 (length b.answers) && list_all (λ (c : Outbox). nat_lt b.session c.session) boxes && are_outboxes boxes
 
 -- The limits of numbers, times, names and rows. What isn't built yet isn't there: no registrations, blocked
 -- requests, transactions, commits and match sets.
@@ -29,6 +34,7 @@ pub record IsWithinLimits (st : State) : Type 0 where
   pub rising : IsTrue (are_rising 0 st.next_number (row_numbers st.rows))
   pub rows : IsTrue (list_all (is_row (length st.spaces)) st.rows)
   pub rows_in : (space : ℕ) → length (filter (λ r. r.space == space) st.rows) ≤ 65536
+  pub outboxes : IsTrue (are_outboxes st.outboxes)
   pub registrations : st.registrations ≡ []
   pub blocked : st.blocked ≡ []
   pub transactions : st.transactions ≡ []

@@ -25,12 +25,12 @@ use Rattle.jsp_model.specs.Answers.{Saying, said}
 -- ---- outboxes
 
 -- what is said to a session goes to the end of its outbox
-abbrev pub say : List Outbox → Saying → List Outbox
-say [] a = record { session = a.0; answers = a.1 ∷ [] } ∷ []
-say (b ∷ boxes) a =
+abbrev pub post : List Outbox → Saying → List Outbox
+post [] a = record { session = a.0; answers = a.1 ∷ [] } ∷ []
+post (b ∷ boxes) a =
     if b.session == a.0 then record b { answers = b.answers ++ a.1 ∷ [] } ∷ boxes
     else if nat_lt a.0 b.session then record { session = a.0; answers = a.1 ∷ [] } ∷ b ∷ boxes
-    else b ∷ say boxes a
+    else b ∷ post boxes a
 
 -- the first n answers go; no box stays empty
 abbrev pub hand_out : ℕ → ℕ → List Outbox → List Outbox
@@ -127,4 +127,4 @@ change st (step.Decide x commits) = if commits then commit st x else abort st x
 change st (step.HandOut s n) = st
 
 unfoldable pub next : State → Step → State
-next st step = record (change st step) { outboxes = handed step (fold say st.outboxes (said st step)) }
+next st step = record (change st step) { outboxes = handed step (fold post st.outboxes (said st step)) }

@@ -1,0 +1,5 @@
+pub mod Accepting
+pub mod Finding
+pub mod Growing
+pub mod Joining
+pub mod Placing

@@ -1,5 +1,5 @@
 -- Entries, templates, and when a template matches an entry.
-use Rattle.std.specs.Prelude.{ℕ, Bool, true, false, not, ◌&&◌, ◌||◌, nat_le, List, [], ◌∷◌, map, length, Option, Some, None, sum_by, find, bytes_eq}
+use Rattle.std.specs.Prelude.{ℕ, Bool, true, false, not, ◌&&◌, ◌||◌, nat_le, List, [], ◌∷◌, map, length, Option, Some, None, option_and_then, sum_by, find, bytes_eq}
 use Rattle.std.specs.List.{list_all}
 use Rattle.std.specs.Option.{option_map_or}
 use Rattle.std.specs.Ordering.{int_eq}
@@ -77,6 +77,11 @@ is_bad classes raw =
 abbrev pub is_small : Entry → Bool
 is_small e = nat_le (length e.class) 64 && nat_le (length e.fields) 32 && list_all (λ f. nat_le (length f.0) 64) e.fields && nat_le (text_size e.fields) 8192
 
+-- a template keeps them too
+abbrev pub is_small_template : Template → Bool
+is_small_template Any = true
+is_small_template (Like e) = is_small e
+
 abbrev pub is_unknown : List Class → Raw → Bool
 is_unknown classes raw = not (is_declared classes raw.class)
 
@@ -87,3 +92,7 @@ entry_fault classes raw = first_that ((is_unknown classes raw, UnknownClass) ∷
 abbrev pub template_of : List Class → Option Raw → Template
 template_of classes None = Any
 template_of classes (Some raw) = Like (entry_of classes raw)
+
+-- why it is refused; the null template isn't
+abbrev pub template_fault : List Class → Option Raw → Option EntryFault
+template_fault classes raw = option_and_then (entry_fault classes) raw

@@ -8,17 +8,28 @@
 //! entry or the first fault that applies, and `matches` is the definition.
 #![tactic(auto)]
 
+mod adding;
+mod checking;
 mod class;
 mod classes;
+mod declaring;
 mod entry;
 mod items;
+mod known;
+mod matching;
+mod names;
+mod sorting;
+#[cfg(test)]
+mod tests;
 mod text;
 mod value;
 
+pub use checking::{check_entry, check_template, entry_fault, template_fault};
 pub use class::{Class, ClassFault};
 pub use classes::Classes;
 pub use entry::{Entry, EntryFault, Raw, Template};
 pub use items::Items;
+pub use matching::matches;
 pub use std::alloc::AllocError as NoMemory;
 pub use text::Text;
 pub use value::{Kind, Value};

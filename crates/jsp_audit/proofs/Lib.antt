@@ -1,0 +1,10 @@
+pub mod Posting
+pub mod Ending
+pub mod Limits
+pub mod Handing
+pub mod Refusing
+pub mod Answering
+pub mod Accepting
+pub mod Offering
+pub mod Legality
+pub mod RunSoFar

@@ -1,0 +1,62 @@
+-- One step more of a run.
+use Rattle.std.proofs.Common.{◌≡◌, ℕ, zero, suc, ◌+◌, ◌<◌, ◌≤◌, Bool, true, false, List, [], ◌∷◌, ◌++◌, length, take, get_or, Option, Some, None, refl, ap, sym, ◌∙◌, arith, append_assoc}
+use Rattle.std.specs.Prelude.{◌&&◌, cond, option_map}
+use Rattle.std.proofs.lemmas.List.{take_more, append-nil, take_all}
+use Rattle.std.proofs.lemmas.Bool.{and_parts}
+use Rattle.jsp_model.specs.declared.state.State.{State}
+use Rattle.jsp_model.specs.declared.step.Step.{Step}
+use Rattle.jsp_model.specs.Answers.{Saying, said}
+use Rattle.jsp_model.specs.Steps.{is_legal, next}
+use Rattle.jsp_model.specs.Runs.{is_run, state_after, said_in, first_illegal}
+
+state_after-append : (st : State) (xs ys : List Step) → state_after st (xs ++ ys) ≡ state_after (state_after st xs) ys
+state_after-append st [] ys = refl
+state_after-append st (x ∷ xs) ys = state_after-append (next st x) xs ys
+
+said_in-append : (st : State) (xs ys : List Step) → said_in st (xs ++ ys) ≡ said_in st xs ++ said_in (state_after st xs) ys
+said_in-append st [] ys = refl
+said_in-append st (x ∷ xs) ys = ap (λ w. said st x ++ w) (said_in-append (next st x) xs ys) ∙ sym (append_assoc (said st x) (said_in (next st x) xs) (said_in (state_after (next st x) xs) ys))
+
+run_more : (st : State) (xs : List Step) (x : Step) → is_run st xs ≡ true → is_legal (state_after st xs) x ≡ true → is_run st (xs ++ x ∷ []) ≡ true
+run_more st [] x run legal = rw legal refl
+run_more st (y ∷ xs) x run legal =
+    let parts = and_parts (is_legal st y) (is_run (next st y) xs) run in
+    rw (parts.0, run_more (next st y) xs x parts.1 legal) refl
+
+-- the steps so far are a run to this state, and this is what they say
+pub record Replaying (base : State) (done : List Step) (state : State) (told : List Saying) : Type 0 where
+  pub run : is_run base done ≡ true
+  pub state_is : state ≡ state_after base done
+  pub told_is : told ≡ said_in base done
+
+pub replaying_start : (base state : State) → state ≡ base → Replaying base [] state []
+replaying_start base state is = record { run = refl; state_is = is; told_is = refl }
+
+pub replaying_more : (base state now : State) (steps : List Step) (i : ℕ) (x : Step) (told told' : List Saying) → i < length steps → x ≡ get_or steps i x → Replaying base (take i steps) state told
+    → is_legal state x ≡ true → told' ≡ told ++ said state x → now ≡ next state x → Replaying base (take (i + 1) steps) now told'
+replaying_more base state now steps i x told told' lt is h legal says made =
+    let more : take (i + 1) steps ≡ take i steps ++ x ∷ [] = take_more steps i x lt ∙ ap (λ (w : Step). take i steps ++ w ∷ []) (sym is) in
+    let legal' : is_legal (state_after base (take i steps)) x ≡ true = ap (λ (s : State). is_legal s x) (sym h.state_is) ∙ legal in
+    rw more (record {
+      run = run_more base (take i steps) x h.run legal';
+      state_is = made ∙ (ap (λ (s : State). next s x) h.state_is ∙ sym (state_after-append base (take i steps) (x ∷ [])));
+      told_is = says ∙ (ap (λ (w : List Saying). w ++ said state x) h.told_is ∙ (ap (λ (s : State). said_in base (take i steps) ++ said s x) h.state_is
+          ∙ (ap (λ (w : List Saying). said_in base (take i steps) ++ w) (sym (append-nil (said (state_after base (take i steps)) x))) ∙ sym (said_in-append base (take i steps) (x ∷ [])))));
+    })
+
+first_of : (st : State) (steps : List Step) (i : ℕ) (d : Step) → i < length steps → is_run st (take i steps) ≡ true → is_legal (state_after st (take i steps)) (get_or steps i d) ≡ false → first_illegal st steps ≡ Some i
+first_of st [] i d lt run no_ = absurd (omega arith)
+first_of st (x ∷ steps) zero d lt run illegal = rw illegal refl
+first_of st (x ∷ steps) (suc i) d lt run illegal =
+    let parts = and_parts (is_legal st x) (is_run (next st x) (take i steps)) run in
+    let rest = first_of (next st x) steps i d (omega arith) parts.1 illegal in
+    let one : i + 1 ≡ suc i = omega arith in
+    rw (parts.0, rest) (ap Some one)
+
+-- the first illegal step is found
+pub replaying_stops : (base state : State) (steps : List Step) (i : ℕ) (x : Step) (told : List Saying) → i < length steps → x ≡ get_or steps i x → Replaying base (take i steps) state told → is_legal state x ≡ false → first_illegal base steps ≡ Some i
+replaying_stops base state steps i x told lt is h illegal =
+    first_of base steps i x lt h.run (ap (λ (s : Step). is_legal (state_after base (take i steps)) s) (sym is) ∙ (ap (λ (s : State). is_legal s x) (sym h.state_is) ∙ illegal))
+
+pub replaying_all : (base state : State) (steps : List Step) (i : ℕ) (told : List Saying) → length steps ≤ i → Replaying base (take i steps) state told → Replaying base steps state told
+replaying_all base state steps i told le h = rw (take_all i steps le) at h

@@ -1,0 +1,7 @@
+pub mod Outboxes
+pub mod Time
+pub mod Faults
+pub mod Rows
+pub mod Offers
+pub mod Replay
+pub mod Spaces

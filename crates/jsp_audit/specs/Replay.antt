@@ -1,0 +1,9 @@
+-- Why a list of steps isn't replayed.
+use Rattle.std.specs.Prelude.{◌≡◌, ℕ, Option, Some}
+use Rattle.jsp_audit.specs.declared.replaying.ReplayFault.{ReplayFault}
+use Rattle.jsp_audit.specs.declared.replaying.ReplayFault.TheVariants.{Illegal, NoMemory}
+
+-- the fault names the place of the first illegal step; want of memory says nothing
+abbrev pub FailsAt : ReplayFault → Option ℕ → Type 0
+FailsAt (Illegal place) first = first ≡ Some place
+FailsAt NoMemory first = Unit {0}

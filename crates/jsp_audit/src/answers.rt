@@ -1,0 +1,104 @@
+//! What a request is answered.
+ghost use Rattle.std.specs.Prelude.{◌≡◌, ◌∷◌, [], List, ℕ, true, IfOk, IfSome, IsTrue, find};
+ghost use Rattle.std.specs.Option.{option_copied};
+ghost use Rattle.jsp_types.specs.Matching.{is_small};
+ghost use Rattle.jsp_wire.specs.Limits.{is_built};
+ghost use Rattle.jsp_wire.specs.declared.ask.Ask.TheVariants as ask;
+ghost use Rattle.jsp_model.specs.declared.step.Step.TheVariants as step;
+ghost use Rattle.jsp_model.specs.Lookup.{is_open, contains as has};
+ghost use Rattle.jsp_model.specs.Refusals.{refusal as refusal_of};
+ghost use Rattle.jsp_model.specs.Answers.{said as said_in, answer as answer_of};
+ghost use Rattle.jsp_model.specs.Image.{IsWithinLimits};
+
+use crate::lookup::{contains, granted};
+use jsp_model::{Row, State};
+use jsp_reply::{Refusal, Reply, Said};
+use jsp_types::{Entry, NoMemory};
+use jsp_wire::{Ask, Asked, Search, Write};
+
+/// The answer to a request: its refusal, or what it is answered at once.
+pub fn reply(
+    state: &State,
+    session: u64,
+    asked: &Asked,
+    rows: &[u64],
+    refused: Option<Refusal>,
+) -> Result<Said, NoMemory>
+    requires limits { IsWithinLimits state.now }
+    requires open { is_open state.now session ≡ true }
+    requires refused { refused ≡ refusal_of state.now session asked.now.id asked.now.ask }
+    ensures { IfOk result (λ y. said_in state.now (step.Ask session asked.now rows.now) ≡ (session, y) ∷ []) }
+{
+    let id = asked.id();
+    match refused {
+        Some(refusal) => Ok(Said::new(Reply::Refused {
+            id: Some(id),
+            refusal,
+        })),
+        None => accepted(state, session, id, asked.ask(), rows),
+    }
+}
+
+/// The answer to a request that isn't refused.
+pub fn accepted(
+    state: &State,
+    session: u64,
+    id: u64,
+    ask: &Ask,
+    rows: &[u64],
+) -> Result<Said, NoMemory>
+    requires limits { IsWithinLimits state.now }
+    requires built { IsTrue (is_built ask.now) }
+    ensures { IfOk result (λ y. answer_of state.now session id rows.now ask.now ≡ y ∷ []) }
+{
+    match ask {
+        Ask::Declare(_) => Ok(Said::new(Reply::Done { id })),
+        Ask::Write(write) => Ok(leased(state, session, id, write)),
+        Ask::Take(search) => shown(state, session, id, search, rows),
+        _ => unreachable!(),
+    }
+}
+
+fn leased(state: &State, session: u64, id: u64, write: &Write) -> Said
+    ensures { (rows : List ℕ) → answer_of state.now session id rows (ask.Write write.now) ≡ result ∷ [] }
+{
+    Said::new(Reply::Leased {
+        id,
+        lease: state.next_number,
+        ms: granted(write.lease).unwrap_or(0),
+    })
+}
+
+fn shown(
+    state: &State,
+    session: u64,
+    id: u64,
+    search: &Search,
+    rows: &[u64],
+) -> Result<Said, NoMemory>
+    requires limits { IsWithinLimits state.now }
+    requires built { IsTrue (is_built (ask.Take search.now)) }
+    ensures { IfOk result (λ y. answer_of state.now session id rows.now (ask.Take search.now) ≡ y ∷ []) }
+{
+    match first_of(state, rows) {
+        None => Ok(Said::new(Reply::Nothing { id })),
+        Some(row) => {
+            let entry = copy_of(&row.entry)?;
+            Ok(Said::new(Reply::Shown { id, entry }))
+        }
+    }
+}
+
+fn first_of<'a>(state: &'a State, rows: &[u64]) -> Option<&'a Row>
+    requires { IsWithinLimits state.now }
+    ensures first { option_copied result ≡ find (λ r. has rows.now r.number) state.now.rows }
+    ensures small { IfSome result (λ r. IsTrue (is_small r.now.entry)) }
+{
+    state.rows.as_slice().iter().find(|row| contains(rows, row.number))
+}
+
+fn copy_of(entry: &Entry) -> Result<Entry, NoMemory>
+    ensures { IfOk result (λ e. e ≡ entry.now) }
+{
+    entry.clone()
+}

@@ -1,0 +1,80 @@
+//! What is due.
+ghost use Rattle.std.specs.Prelude.{◌≡◌, Some, if◌then◌else◌};
+ghost use Rattle.std.specs.Option.{option_map_or};
+ghost use Rattle.jsp_model.specs.Due.{due as first_due, is_before as comes_before, rank_number as place_of_rank};
+ghost use Rattle.jsp_model.specs.Image.{IsWithinLimits};
+ghost use Rattle.jsp_audit.specs.Time.{row_item};
+
+use jsp_model::{Item, Rank, Row, State};
+
+/// The least due item: its end has come. Only rows have ends by now.
+pub fn due(state: &State) -> Option<Item>
+    requires { IsWithinLimits state.now }
+    ensures { result ≡ first_due state.now }
+{
+    let rows = state.rows.as_slice();
+    let time = state.time;
+    let mut first = None;
+    let mut place = rows.len();
+    'rows: while place > 0 {
+        place -= 1;
+        let row = &rows[place];
+        if row.end <= time {
+            first = Some(earlier(item_of(row), first));
+        }
+    }
+    first
+}
+
+/// The row as an item that has an end.
+fn item_of(row: &Row) -> Item
+    ensures { result ≡ row_item row.now }
+{
+    Item {
+        end: row.end,
+        rank: Rank::Entry,
+        number: row.number,
+    }
+}
+
+fn earlier(item: Item, other: Option<Item>) -> Item
+    ensures { result ≡ option_map_or (λ b. if comes_before b item then b else item) other item }
+{
+    match other {
+        None => item,
+        Some(other) => {
+            if is_before(other, item) {
+                other
+            } else {
+                item
+            }
+        }
+    }
+}
+
+/// By end, then rank, then number.
+fn is_before(a: Item, b: Item) -> bool
+    ensures { result ≡ comes_before a b }
+{
+    if a.end != b.end {
+        return a.end < b.end;
+    }
+    let rank = rank_number(a.rank);
+    let other = rank_number(b.rank);
+    if rank != other {
+        return rank < other;
+    }
+    a.number < b.number
+}
+
+pub(crate) fn rank_number(rank: Rank) -> u8
+    ensures { result ≡ place_of_rank rank }
+{
+    match rank {
+        Rank::Entry => 0,
+        Rank::Registration => 1,
+        Rank::Transaction => 2,
+        Rank::Blocked => 3,
+        Rank::MatchSet => 4,
+    }
+}

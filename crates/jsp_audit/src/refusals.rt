@@ -1,0 +1,170 @@
+//! Why a request is refused: the first refusal that applies.
+ghost use Rattle.std.specs.Prelude.{◌≡◌, ◌∷◌, ◌++◌, [], IfOk, OnOk, IsTrue, is_none};
+ghost use Rattle.std.specs.List.{list_any};
+ghost use Rattle.jsp_wire.specs.Limits.{is_built};
+ghost use Rattle.jsp_wire.specs.declared.ask.Ask.TheVariants as ask;
+ghost use Rattle.jsp_model.specs.Refusals.{refusal as refusal_of, class_asked as class_of, kinded as fields_with_kind};
+ghost use Rattle.jsp_audit.specs.Faults.{refusal_of_class, refusal_of_entry};
+
+use crate::lookup::{is_waiting, rows_in, space_named};
+use jsp_model::State;
+use jsp_reply::Refusal;
+use jsp_types::{
+    Class, ClassFault, EntryFault, Items, Kind, NoMemory, Text, entry_fault, template_fault,
+};
+use jsp_wire::{Ask, Declare, Search, Write};
+use std::alloc::Global;
+
+/// Why a request is refused, or nothing where it isn't.
+pub fn refusal(
+    alloc: Global,
+    state: &State,
+    session: u64,
+    id: u64,
+    ask: &Ask,
+) -> Result<Option<Refusal>, NoMemory>
+    requires { IsTrue (is_built ask.now) }
+    ensures { IfOk result (λ r. r ≡ refusal_of state.now session id ask.now) }
+{
+    match ask {
+        Ask::Declare(declare) => refuse_declare(alloc, state, session, id, declare),
+        Ask::Write(write) => Ok(refuse_write(state, session, id, write)),
+        Ask::Take(search) => Ok(refuse_take(state, session, id, search)),
+        _ => unreachable!(),
+    }
+}
+
+/// The class that a request declares, without the fields whose kind is none.
+pub fn class_asked(alloc: Global, declare: &Declare) -> Result<Class, NoMemory>
+    ensures { IfOk result (λ c. c ≡ class_of declare.now) }
+{
+    let fields = kinded(alloc, declare.fields.as_slice())?;
+    let parent = match &declare.parent {
+        None => None,
+        Some(parent) => Some(parent.as_str()),
+    };
+    Class::new(alloc, declare.class.as_str(), parent, fields.as_slice())
+}
+
+fn kinded(
+    alloc: Global,
+    fields: &[(Text, Option<Kind>)],
+) -> Result<Items<(Text, Kind)>, NoMemory>
+    ensures { IfOk result (λ v. v ≡ fields_with_kind fields.now) }
+{
+    let mut found = Items::new(alloc);
+    for field in fields {
+        add_kinded(&mut found, field)?;
+    }
+    Ok(found)
+}
+
+fn add_kinded(
+    found: &mut Items<(Text, Kind)>,
+    field: &(Text, Option<Kind>),
+) -> Result<(), NoMemory>
+    ensures { OnOk result (found.new ≡ found.old ++ fields_with_kind (field.now ∷ [])) }
+{
+    match field.1 {
+        None => Ok(()),
+        Some(kind) => {
+            let name = field.0.clone()?;
+            found.push((name, kind))?;
+            Ok(())
+        }
+    }
+}
+
+fn lacks_kind(fields: &[(Text, Option<Kind>)]) -> bool
+    ensures { result ≡ list_any (λ f. is_none f.1) fields.now }
+{
+    fields.iter().any(|field| field.1.is_none())
+}
+
+fn refuse_declare(
+    alloc: Global,
+    state: &State,
+    session: u64,
+    id: u64,
+    declare: &Declare,
+) -> Result<Option<Refusal>, NoMemory>
+    ensures { IfOk result (λ r. r ≡ refusal_of state.now session id (ask.Declare declare.now)) }
+{
+    if is_waiting(state, session, id) {
+        return Ok(Some(Refusal::IdInUse));
+    }
+    if lacks_kind(declare.fields.as_slice()) {
+        return Ok(Some(Refusal::BadClass));
+    }
+    let class = class_asked(alloc, declare)?;
+    match state.classes.fault(&class) {
+        None => Ok(None),
+        Some(fault) => Ok(Some(class_refusal(fault))),
+    }
+}
+
+fn class_refusal(fault: ClassFault) -> Refusal
+    ensures { result ≡ refusal_of_class fault }
+{
+    match fault {
+        ClassFault::BadClass => Refusal::BadClass,
+        ClassFault::Differs => Refusal::Differs,
+        ClassFault::UnknownParent => Refusal::UnknownClass,
+        ClassFault::TooMany => Refusal::TooMany,
+        ClassFault::NoMemory => Refusal::TooMany,
+    }
+}
+
+fn entry_refusal(fault: EntryFault) -> Refusal
+    ensures { result ≡ refusal_of_entry fault }
+{
+    match fault {
+        EntryFault::UnknownClass => Refusal::UnknownClass,
+        EntryFault::BadEntry => Refusal::BadEntry,
+        EntryFault::NoMemory => Refusal::BadEntry,
+    }
+}
+
+/// How many rows a space may have, hidden and taken ones too.
+const MOST_ROWS: usize = 65_536;
+
+/// The last number that is drawn.
+const LAST_NUMBER: u64 = 1 << 62;
+
+fn refuse_write(state: &State, session: u64, id: u64, write: &Write) -> Option<Refusal>
+    requires { IsTrue (is_built (ask.Write write.now)) }
+    ensures { result ≡ refusal_of state.now session id (ask.Write write.now) }
+{
+    if is_waiting(state, session, id) {
+        return Some(Refusal::IdInUse);
+    }
+    let Some(space) = space_named(state, write.space.as_str()) else {
+        return Some(Refusal::UnknownSpace);
+    };
+    if let Some(fault) = entry_fault(&state.classes, &write.entry) {
+        return Some(entry_refusal(fault));
+    }
+    if rows_in(state, space as u64) >= MOST_ROWS {
+        return Some(Refusal::SpaceFull);
+    }
+    if state.next_number > LAST_NUMBER {
+        return Some(Refusal::UsedUp);
+    }
+    None
+}
+
+fn refuse_take(state: &State, session: u64, id: u64, search: &Search) -> Option<Refusal>
+    requires { IsTrue (is_built (ask.Take search.now)) }
+    ensures { result ≡ refusal_of state.now session id (ask.Take search.now) }
+{
+    if is_waiting(state, session, id) {
+        return Some(Refusal::IdInUse);
+    }
+    let Some(_space) = space_named(state, search.space.as_str()) else {
+        return Some(Refusal::UnknownSpace);
+    };
+    match template_fault(&state.classes, search.template.as_ref()) {
+        None => None,
+        Some(fault) => Some(entry_refusal(fault)),
+    }
+}

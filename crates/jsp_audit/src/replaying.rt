@@ -1,0 +1,94 @@
+//! Running a list of steps.
+ghost use Rattle.std.specs.Prelude.{◌≡◌, ◌++◌, IfOk, IfErr, OnOk, option_to_list};
+ghost use Rattle.jsp_model.specs.Lookup.{empty};
+ghost use Rattle.jsp_model.specs.Runs.{IsRun, state_after, said_in, first_illegal};
+ghost use Rattle.jsp_audit.specs.Replay.{FailsAt};
+
+use crate::applying::{apply, said};
+use crate::emptiness::empty_image;
+use crate::legal::is_legal;
+use jsp_model::{Config, Image, Step};
+use jsp_reply::Said;
+use jsp_types::NoMemory;
+use std::alloc::Global;
+use thiserror::Error;
+
+/// The state after a run, and all that its steps say, in order, each to its session.
+#[derive(Drop)]
+pub struct Replayed {
+    pub image: Image,
+    pub said: Vec<(u64, Said)>,
+}
+
+/// Why a list of steps isn't replayed.
+#[derive(Debug, Drop, Error)]
+pub enum ReplayFault {
+    /// The place, from 0, of the first step that isn't legal where it stands.
+    #[error("step {0} isn't legal")]
+    Illegal(usize),
+    #[error("out of memory")]
+    NoMemory,
+}
+
+impl From<NoMemory> for ReplayFault {
+    ghost use Rattle.std.specs.Prelude.{◌≡◌};
+    ghost use Rattle.jsp_audit.specs.declared.replaying.ReplayFault.TheVariants.{NoMemory};
+
+    ghost from_gives = { λ _ e. e ≡ NoMemory };
+
+    fn from(_e: NoMemory) -> ReplayFault {
+        ReplayFault::NoMemory
+    }
+}
+
+/// Runs the steps from the empty state of a config.
+///
+/// Ok exactly where they are a run, want of memory apart.
+pub fn replay(alloc: Global, config: &Config, steps: &[Step]) -> Result<Replayed, ReplayFault>
+    ensures run { OnOk result (IsRun (empty config.now) steps.now) }
+    ensures image { IfOk result (λ r. r.image ≡ state_after (empty config.now) steps.now) }
+    ensures said { IfOk result (λ r. r.said.items ≡ said_in (empty config.now) steps.now) }
+    ensures illegal { IfErr result (λ e. FailsAt e (first_illegal (empty config.now) steps.now)) }
+{
+    let base = empty_image(alloc, config)?;
+    replay_from(alloc, &base, steps)
+}
+
+/// Runs the steps from a state.
+///
+/// Ok exactly where they are a run from it, want of memory apart.
+pub fn replay_from(
+    alloc: Global,
+    base: &Image,
+    steps: &[Step],
+) -> Result<Replayed, ReplayFault>
+    ensures run { OnOk result (IsRun base.now steps.now) }
+    ensures image { IfOk result (λ r. r.image ≡ state_after base.now steps.now) }
+    ensures said { IfOk result (λ r. r.said.items ≡ said_in base.now steps.now) }
+    ensures illegal { IfErr result (λ e. FailsAt e (first_illegal base.now steps.now)) }
+{
+    let mut image = base.copy(alloc)?;
+    let mut told = Vec::new(alloc);
+    for (place, step) in steps.iter().enumerate() {
+        if !is_legal(alloc, &image, step)? {
+            return Err(ReplayFault::Illegal(place));
+        }
+        let saying = said(alloc, &image, step)?;
+        add(&mut told, saying)?;
+        apply(alloc, &mut image, step)?;
+    }
+    Ok(Replayed { image, said: told })
+}
+
+/// Adds what a step said.
+fn add(told: &mut Vec<(u64, Said)>, saying: Option<(u64, Said)>) -> Result<(), NoMemory>
+    ensures { OnOk result (told.new.items ≡ told.old.items ++ option_to_list saying) }
+{
+    match saying {
+        None => Ok(()),
+        Some(saying) => {
+            told.push(saying)?;
+            Ok(())
+        }
+    }
+}

@@ -1,0 +1,57 @@
+-- An entry that isn't bad for the fields of its declared class is accepted.
+use Rattle.std.proofs.Common.{◌≡◌, ℕ, Bool, true, false, not, cond, ◌&&◌, nat_le, List, length, Some, None, IsTrue, refl, sym, ◌∙◌, ap}
+use Rattle.std.specs.List.{list_all}
+use Rattle.std.proofs.lemmas.Bool.{and_parts, and_from}
+use Rattle.std.proofs.lemmas.List.{length-map}
+use Rattle.std.proofs.lemmas.List.Folds.{list_all-map}
+use Rattle.jsp_types.specs.declared.value.Kind.{Kind}
+use Rattle.jsp_types.specs.declared.value.Value.{Value}
+use Rattle.jsp_types.specs.declared.class.Class.{Class}
+use Rattle.jsp_types.specs.declared.entry.Raw.{Raw}
+use Rattle.jsp_types.specs.Classes.{is_declared, are_distinct, fields_of, declared_fields, is_within_limits}
+use Rattle.jsp_types.specs.Matching.{value_at, text_size, entry_of, is_bad, entry_fault, is_small}
+use Rattle.jsp_types.specs.Checking.{is_field_among, filled, is_bad_for, IsAccepted}
+
+declared_with : (classes : List Class) (name : List ℕ) (fields : List (List ℕ × Kind)) → Some fields ≡ declared_fields classes name → (is_declared classes name ≡ true) × (fields ≡ fields_of classes name)
+declared_with classes name fields same =
+    let Goal : Bool → Type 0 = λ b. Some fields ≡ cond b (Some (fields_of classes name)) None → (b ≡ true) × (fields ≡ fields_of classes name) in
+    let by_cases : (b : Bool) → Goal b = λ b. elim b as Goal [ true ↦ λ e. (refl, cc) | false ↦ λ e. cc ] in
+    by_cases (is_declared classes name) same
+
+not-false : (b : Bool) → not b ≡ false → b ≡ true
+not-false true e = refl
+not-false false e = cc
+
+small_text : (fields : List (List ℕ × Kind)) (given : List (List ℕ × Value)) → is_bad_for fields given ≡ false → nat_le (text_size (filled fields given)) 8192 ≡ true
+small_text fields given good =
+    (and_parts (are_distinct given && list_all (is_field_among fields) given) (nat_le (text_size (filled fields given)) 8192) (not-false _ good)).1
+
+small_names : (fields : List (List ℕ × Kind)) (given : List (List ℕ × Value)) → list_all (λ f. nat_le (length f.0) 64) fields ≡ true → list_all (λ f. nat_le (length f.0) 64) (filled fields given) ≡ true
+small_names fields given small = list_all-map (λ f. nat_le (length f.0) 64) (λ f. (f.0, value_at given f.0)) fields ∙ small
+
+small_entry : (classes : List Class) (raw : Raw) → IsTrue (is_within_limits raw.class (fields_of classes raw.class)) → is_bad_for (fields_of classes raw.class) raw.fields ≡ false → IsTrue (is_small (entry_of classes raw))
+small_entry classes raw within good =
+    let fields : List (List ℕ × Kind) = fields_of classes raw.class in
+    let limits = and_parts (nat_le (length raw.class) 64 && nat_le (length fields) 32) (list_all (λ f. nat_le (length f.0) 64) fields) within in
+    let lengths = and_parts (nat_le (length raw.class) 64) (nat_le (length fields) 32) limits.0 in
+    and_from _ _
+    (and_from _ _
+    (and_from _ _ lengths.0 (ap (λ n. nat_le n 32) (length-map fields (λ f. (f.0, value_at raw.fields f.0))) ∙ lengths.1))
+    (small_names fields raw.fields limits.1))
+    (small_text fields raw.fields good)
+
+unrefused : (classes : List Class) (raw : Raw) → is_declared classes raw.class ≡ true → is_bad classes raw ≡ false → entry_fault classes raw ≡ None
+unrefused classes raw known good = rw (known, good)
+
+pub accepted : (classes : List Class) (raw : Raw) (name : List ℕ) (fields : List (List ℕ × Kind)) (given : List (List ℕ × Value)) (bad : Bool) → name ≡ raw.class → given ≡ raw.fields → Some fields ≡ declared_fields classes name → IsTrue (is_within_limits name fields) → bad ≡ is_bad_for fields given → bad ≡ false → IsAccepted classes raw fields
+accepted classes raw name fields given bad same_name same_given same within tested good =
+    let known = declared_with classes raw.class fields (same ∙ ap (declared_fields classes) same_name) in
+    let good_here : is_bad_for (fields_of classes raw.class) raw.fields ≡ false =
+    ap (λ fs. is_bad_for fs raw.fields) (sym known.1) ∙ ap (is_bad_for fields) (sym same_given) ∙ sym tested ∙ good in
+    let within_here : IsTrue (is_within_limits raw.class (fields_of classes raw.class)) =
+    ap (is_within_limits raw.class) (sym known.1) ∙ ap (λ n. is_within_limits n fields) (sym same_name) ∙ within in
+    record {
+      fields_of_class = known.1;
+      unrefused = unrefused classes raw known.0 good_here;
+      within_limits = small_entry classes raw within_here good_here;
+    }

@@ -1,0 +1,91 @@
+//! A class added to the declared ones.
+ghost use Rattle.std.specs.Prelude.{◌≡◌, ◌++◌, ◌∷◌, ◌⊎◌, None, IfOk, IfErr, OnOk, OnErr, option_copied};
+ghost use Rattle.jsp_types.specs.Classes.{class_fault, class_of, declared};
+
+use crate::known::Known;
+use crate::{Class, ClassFault, Classes, Items, Kind, NoMemory, Text};
+use std::alloc::Global;
+
+/// The name and the names above it.
+fn line_from(alloc: Global, name: &Text, above: &[Text]) -> Result<Items<Text>, NoMemory>
+    ensures { IfOk result (λ line. line ≡ name.now ∷ above.now) }
+{
+    let mut line = Items::new(alloc);
+    line.push(name.clone()?)?;
+    for name in above {
+        line.push(name.clone()?)?;
+    }
+    Ok(line)
+}
+
+/// Adds copies of the fields at the end.
+fn append(fields: &mut Items<(Text, Kind)>, more: &[(Text, Kind)]) -> Result<(), NoMemory>
+    ensures { OnOk result (fields.new ≡ fields.old ++ more.now) }
+{
+    for field in more {
+        fields.push(field.clone()?)?;
+    }
+    Ok(())
+}
+
+/// The inherited fields and then a class's own.
+fn joined(
+    alloc: Global,
+    inherited: &[(Text, Kind)],
+    own: &[(Text, Kind)],
+) -> Result<Items<(Text, Kind)>, NoMemory>
+    ensures { IfOk result (λ fields. fields ≡ inherited.now ++ own.now) }
+{
+    let mut fields = Items::new(alloc);
+    append(&mut fields, inherited)?;
+    append(&mut fields, own)?;
+    Ok(fields)
+}
+
+impl Classes {
+    /// Adds a class that isn't refused, or none where it is declared alike already. On `Err` nothing is
+    /// changed.
+    pub fn add(&mut self, class: Class) -> Result<(), NoMemory>
+        requires { class_fault self.old class ≡ None }
+        ensures ok { OnOk result (self.new ≡ declared self.old class) }
+        ensures err { OnErr result (self.new ≡ self.old) }
+    {
+        if self.known(class.name.as_str()).is_some() {
+            return Ok(());
+        }
+        let line = line_from(self.alloc, &class.name, self.line_above(&class))?;
+        let fields = joined(self.alloc, self.inherited(&class), class.fields.as_slice())?;
+        self.known.push(Known {
+            class,
+            line,
+            fields,
+        })?;
+        Ok(())
+    }
+
+    /// Declares the class of these fields, in whatever order they are given, or says why it is refused,
+    /// as `fault` does. The same declaration again is `Ok`. `NoMemory` may come in place of any other
+    /// answer. On `Err` nothing is changed.
+    pub fn declare(
+        &mut self,
+        name: &str,
+        parent: Option<&str>,
+        fields: &[(Text, Kind)],
+    ) -> Result<(), ClassFault>
+        ensures accepted { let class = class_of name.now (option_copied parent.entry) fields.now in
+            OnOk result (class_fault self.old class ≡ None) }
+        ensures ok { let class = class_of name.now (option_copied parent.entry) fields.now in
+            OnOk result (self.new ≡ declared self.old class) }
+        ensures fault { let class = class_of name.now (option_copied parent.entry) fields.now in
+            IfErr result
+            (λ fault. (fault ≡ ClassFault.NoMemory) ⊎ (class_fault self.old class ≡ Some fault)) }
+        ensures err { OnErr result (self.new ≡ self.old) }
+    {
+        let class = Class::new(self.alloc, name, parent, fields)?;
+        if let Some(fault) = self.fault(&class) {
+            return Err(fault);
+        }
+        self.add(class)?;
+        Ok(())
+    }
+}
