@@ -53,9 +53,10 @@ rising_filter p low high [] h = h
 rising_filter p low high (r ∷ rows) h =
     let parts = and_parts (nat_lt low r.number) (are_rising r.number high (row_numbers rows)) h in
     let rest = rising_filter p r.number high rows parts.1 in
-    elim (p r) as (λ b. are_rising low high (row_numbers (cond b (r ∷ filter p rows) (filter p rows))) ≡ true)
-    [ true ↦ both (nat_lt low r.number) (are_rising r.number high (row_numbers (filter p rows))) parts.0 rest
-    | false ↦ rising_lower r.number low high (row_numbers (filter p rows)) (omega (arith, ltb-true low r.number parts.0)) rest ]
+    elim (p r) as (λ b. are_rising low high (row_numbers (cond b (r ∷ filter p rows) (filter p rows))) ≡ true) [
+      | true ↦ both (nat_lt low r.number) (are_rising r.number high (row_numbers (filter p rows))) parts.0 rest
+      | false ↦ rising_lower r.number low high (row_numbers (filter p rows)) (omega (arith, ltb-true low r.number parts.0)) rest
+    ]
 
 all_filter : {X : Type 0} (p q : X → Bool) (xs : List X) → list_all q xs ≡ true → list_all q (filter p xs) ≡ true
 all_filter p q [] h = refl
@@ -68,9 +69,10 @@ count_filter : {X : Type 0} (p q : X → Bool) (xs : List X) → length (filter 
 count_filter p q [] = omega arith
 count_filter p q (x ∷ xs) =
     let rest = count_filter p q xs in
-    elim (p x) as (λ b. length (filter q (cond b (x ∷ filter p xs) (filter p xs))) ≤ length (cond (q x) (x ∷ filter q xs) (filter q xs)))
-    [ true ↦ (elim (q x) as (λ b. length (cond b (x ∷ filter q (filter p xs)) (filter q (filter p xs))) ≤ length (cond b (x ∷ filter q xs) (filter q xs))) [ true ↦ omega (arith, rest) | false ↦ rest ])
-    | false ↦ (elim (q x) as (λ b. length (filter q (filter p xs)) ≤ length (cond b (x ∷ filter q xs) (filter q xs))) [ true ↦ omega (arith, rest) | false ↦ rest ]) ]
+    elim (p x) as (λ b. length (filter q (cond b (x ∷ filter p xs) (filter p xs))) ≤ length (cond (q x) (x ∷ filter q xs) (filter q xs))) [
+      | true ↦ (elim (q x) as (λ b. length (cond b (x ∷ filter q (filter p xs)) (filter q (filter p xs))) ≤ length (cond b (x ∷ filter q xs) (filter q xs))) [ true ↦ omega (arith, rest) | false ↦ rest ])
+      | false ↦ (elim (q x) as (λ b. length (filter q (filter p xs)) ≤ length (cond b (x ∷ filter q xs) (filter q xs))) [ true ↦ omega (arith, rest) | false ↦ rest ])
+    ]
 
 -- some rows go
 pub limits_filter : (st : State) (p : Row → Bool) → IsWithinLimits st → IsWithinLimits (record st { rows = filter p st.rows })

@@ -17,7 +17,7 @@ use jsp_types::{Entry, NoMemory};
 use jsp_wire::{Ask, Asked, Search, Write};
 
 /// The answer to a request: its refusal, or what it is answered at once.
-pub fn reply(
+pub(crate) fn reply(
     state: &State,
     session: u64,
     asked: &Asked,
@@ -40,7 +40,7 @@ pub fn reply(
 }
 
 /// The answer to a request that isn't refused.
-pub fn accepted(
+pub(crate) fn accepted(
     state: &State,
     session: u64,
     id: u64,
@@ -94,7 +94,11 @@ fn first_of<'a>(state: &'a State, rows: &[u64]) -> Option<&'a Row>
     ensures first { option_copied result ≡ find (λ r. has rows.now r.number) state.now.rows }
     ensures small { IfSome result (λ r. IsTrue (is_small r.now.entry)) }
 {
-    state.rows.as_slice().iter().find(|row| contains(rows, row.number))
+    state
+        .rows
+        .as_slice()
+        .iter()
+        .find(|row| contains(rows, row.number))
 }
 
 fn copy_of(entry: &Entry) -> Result<Entry, NoMemory>

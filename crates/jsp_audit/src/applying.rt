@@ -1,8 +1,8 @@
 //! The state after a step, and what the step says.
-ghost use Rattle.std.specs.Prelude.{◌≡◌, ◌∷◌, [], true, OnOk, OnErr, IfOk, IsTrue, option_to_list};
+ghost use Rattle.std.specs.Prelude.{◌≡◌, ◌∷◌, [], true, OnOk, OnErr, IfOk, IsTrue, option_to_list, take};
 ghost use Rattle.jsp_model.specs.declared.step.Step.TheVariants as step;
 ghost use Rattle.jsp_model.specs.Answers.{said as said_in};
-ghost use Rattle.jsp_model.specs.Steps.{is_legal, next};
+ghost use Rattle.jsp_model.specs.Steps.{is_legal, next, outbox_of};
 ghost use Rattle.jsp_model.specs.Image.{IsWithinLimits};
 
 use crate::answers::reply;
@@ -20,6 +20,7 @@ pub fn apply(alloc: Global, image: &mut Image, step: &Step) -> Result<(), NoMemo
     requires { IsTrue (is_legal image.old step.now) }
     ensures ok { OnOk result (image.new ≡ next image.old step.now) }
     ensures err { OnErr result (image.new ≡ image.old) }
+    ensures limits { IsWithinLimits image.new }
 {
     make(alloc, &mut image.state, step)
 }
@@ -83,11 +84,7 @@ fn drop_answers(
 
 /// What a legal step says, and to which session.
 #[tactic(auto, unfolding(jsp_model::specs::Answers::said))]
-pub fn said(
-    alloc: Global,
-    image: &Image,
-    step: &Step,
-) -> Result<Option<(u64, Said)>, NoMemory>
+pub fn said(alloc: Global, image: &Image, step: &Step) -> Result<Option<(u64, Said)>, NoMemory>
     requires { IsTrue (is_legal image.now step.now) }
     ensures { IfOk result (λ s. said_in image.now step.now ≡ option_to_list s) }
 {
@@ -124,4 +121,25 @@ pub fn said(
         Step::Vote { .. } => unreachable!(),
         Step::Decide { .. } => unreachable!(),
     }
+}
+
+/// Hands out the next answers of a session: so many, of those that wait for it.
+pub fn hand_out(
+    alloc: Global,
+    image: &mut Image,
+    session: u64,
+    count: usize,
+) -> Result<Vec<Said>, NoMemory>
+    ensures answers { IfOk result (λ v. v.items ≡ take count (outbox_of image.old session)) }
+    ensures ok { OnOk result (image.new ≡ next image.old (step.HandOut session count)) }
+    ensures err { OnErr result (image.new ≡ image.old) }
+{
+    make_hand_out(alloc, &mut image.state, session, count)
+}
+
+/// Closes a session. Takes no memory.
+pub fn shut(image: &mut Image, session: u64)
+    ensures { image.new ≡ next image.old (step.Shut session) }
+{
+    make_shut(&mut image.state, session);
 }

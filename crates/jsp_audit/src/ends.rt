@@ -42,13 +42,7 @@ fn earlier(item: Item, other: Option<Item>) -> Item
 {
     match other {
         None => item,
-        Some(other) => {
-            if is_before(other, item) {
-                other
-            } else {
-                item
-            }
-        }
+        Some(other) => { if is_before(other, item) { other } else { item } }
     }
 }
 

@@ -80,7 +80,10 @@ fn may_fault(state: &State, session: u64, id: Option<u64>, refusal: Refusal) -> 
 fn is_fault(refusal: Refusal) -> bool
     ensures { result ≡ is_a_fault refusal }
 {
-    matches!(refusal, Refusal::BadJson | Refusal::BadRequest | Refusal::TooLong)
+    matches!(
+        refusal,
+        Refusal::BadJson | Refusal::BadRequest | Refusal::TooLong
+    )
 }
 
 #[tactic(auto, unfolding(jsp_model::specs::Steps::is_legal))]
@@ -108,7 +111,7 @@ fn may_hand_out(state: &State, session: u64, count: u64) -> bool
 }
 
 /// How many answers wait for the session.
-pub(crate) fn waiting(state: &State, session: u64) -> u64
+pub fn waiting(state: &State, session: u64) -> u64
     ensures { result ≡ length (outbox_of state.now session) }
 {
     let outboxes = state.outboxes.as_slice();

@@ -1,4 +1,13 @@
-//! The abstract machine run as a program.
+//! The abstract machine run as a program: whether a step is legal in a state, what it says, and the
+//! state after it.
+//!
+//! Each call has a definition of jsp_model as its contract: `is_legal`, `said` and `apply` are those
+//! of `specs/Steps.antt` and `specs/Answers.antt` there, over a state within its limits. A step is
+//! applied whole, or not at all where a growth is refused. `replay` runs a list of steps from the
+//! empty state of a config and `replay_from` from any state: they answer Ok exactly where the steps
+//! are a run, with the state after them and all that they say, and else the place of the first step
+//! that isn't legal where it stands. A house that keeps such a state chooses its steps with
+//! `refusal`, `first_offered` and `due`.
 #![tactic(auto)]
 
 mod answers;
@@ -16,17 +25,11 @@ mod requests;
 mod rows;
 mod sessions;
 
-pub use lookup::{contains, granted, is_open, is_waiting, rows_in, space_named};
-pub use outboxes::{Posted, place_of, post, take_back, take_first};
-pub use sessions::{close, open, set_clock};
-pub use ends::due;
-pub use rows::{remove_row, remove_rows};
-pub use making::{make_clock, make_due, make_fault, make_hand_out, make_open, make_shut};
-pub use refusals::{class_asked, refusal};
-pub use answers::{accepted, reply};
-pub use requests::make_ask;
-pub use offers::{first_offered, may_be_given};
-pub use legal::is_legal;
-pub use applying::{apply, said};
+pub use applying::{apply, hand_out, said, shut};
 pub use emptiness::empty_image;
+pub use ends::due;
+pub use legal::{is_legal, waiting};
+pub use lookup::is_open;
+pub use offers::first_offered;
+pub use refusals::refusal;
 pub use replaying::{ReplayFault, Replayed, replay, replay_from};

@@ -10,18 +10,22 @@ use jsp_model::{Blocked, Commit, State};
 pub fn is_open(state: &State, session: u64) -> bool
     ensures { result ≡ has_open state.now session }
 {
-    state.sessions.as_slice().iter().any(|k| k.number == session)
+    state
+        .sessions
+        .as_slice()
+        .iter()
+        .any(|k| k.number == session)
 }
 
 /// The place of the space of this name.
-pub fn space_named(state: &State, name: &str) -> Option<usize>
+pub(crate) fn space_named(state: &State, name: &str) -> Option<usize>
     ensures { result ≡ place_named state.now name.now }
 {
     state.spaces.as_slice().iter().position(|p| p.name.is(name))
 }
 
 /// Whether the session's request of this id waits.
-pub fn is_waiting(state: &State, session: u64, id: u64) -> bool
+pub(crate) fn is_waiting(state: &State, session: u64, id: u64) -> bool
     ensures { result ≡ waits state.now session id }
 {
     is_blocked(state.blocked.as_slice(), session, id)
@@ -41,13 +45,18 @@ fn is_asked(commits: &[Commit], session: u64, id: u64) -> bool
 }
 
 /// How many rows a space has.
-pub fn rows_in(state: &State, space: u64) -> usize
+pub(crate) fn rows_in(state: &State, space: u64) -> usize
     ensures { result ≡ count_in state.now space }
 {
-    state.rows.as_slice().iter().filter(|r| r.space == space).count()
+    state
+        .rows
+        .as_slice()
+        .iter()
+        .filter(|r| r.space == space)
+        .count()
 }
 
-pub fn contains(numbers: &[u64], number: u64) -> bool
+pub(crate) fn contains(numbers: &[u64], number: u64) -> bool
     ensures { result ≡ has numbers.now number }
 {
     numbers.iter().any(|n| *n == number)
@@ -60,7 +69,7 @@ const ANY_MS: u64 = 60_000;
 /// What a lease of the asked time is granted, in milliseconds: the least of the time and an hour,
 /// a minute for ANY (-1), and nothing for other negative times (Jini Leasing; the numbers are this
 /// profile's own).
-pub fn granted(lease: i64) -> Option<u64>
+pub(crate) fn granted(lease: i64) -> Option<u64>
     ensures { result ≡ granted_of lease }
 {
     if lease >= 0 {

@@ -16,7 +16,7 @@ use std::alloc::Global;
 
 /// A session is opened.
 #[tactic(auto, unfolding(jsp_model::specs::Steps::next, jsp_model::specs::Answers::said))]
-pub fn make_open(state: &mut State, session: u64) -> Result<(), NoMemory>
+pub(crate) fn make_open(state: &mut State, session: u64) -> Result<(), NoMemory>
     requires limits { IsWithinLimits state.old }
     requires number { session ≤ 2 ^ 31 }
     ensures ok { OnOk result (state.new ≡ next state.old (step.Open session)) }
@@ -28,7 +28,7 @@ pub fn make_open(state: &mut State, session: u64) -> Result<(), NoMemory>
 
 /// A session is closed.
 #[tactic(auto, unfolding(jsp_model::specs::Steps::next, jsp_model::specs::Answers::said))]
-pub fn make_shut(state: &mut State, session: u64)
+pub(crate) fn make_shut(state: &mut State, session: u64)
     requires { IsWithinLimits state.old }
     ensures made { state.new ≡ next state.old (step.Shut session) }
     ensures limits { IsWithinLimits state.new }
@@ -38,7 +38,7 @@ pub fn make_shut(state: &mut State, session: u64)
 
 /// A reading of the clock.
 #[tactic(auto, unfolding(jsp_model::specs::Steps::next, jsp_model::specs::Answers::said))]
-pub fn make_clock(state: &mut State, time: u64)
+pub(crate) fn make_clock(state: &mut State, time: u64)
     requires { IsWithinLimits state.old }
     ensures made { state.new ≡ next state.old (step.Clock time) }
     ensures limits { IsWithinLimits state.new }
@@ -48,7 +48,7 @@ pub fn make_clock(state: &mut State, time: u64)
 
 /// A row's end has come.
 #[tactic(auto, unfolding(jsp_model::specs::Steps::next, jsp_model::specs::Answers::said))]
-pub fn make_due(state: &mut State, item: Item)
+pub(crate) fn make_due(state: &mut State, item: Item)
     requires limits { IsWithinLimits state.old }
     requires entry { item.rank ≡ rank.Entry }
     ensures made { state.new ≡ next state.old (step.Due item) }
@@ -60,7 +60,7 @@ pub fn make_due(state: &mut State, item: Item)
 /// Bytes of a session that are no request are answered by a refusal. A frame that is too long closes
 /// the session too.
 #[tactic(auto, unfolding(jsp_model::specs::Steps::next, jsp_model::specs::Answers::said))]
-pub fn make_fault(
+pub(crate) fn make_fault(
     alloc: Global,
     state: &mut State,
     session: u64,
@@ -83,7 +83,7 @@ pub fn make_fault(
 
 /// The next answers of a session are handed out: so many, of those that are there.
 #[tactic(auto, unfolding(jsp_model::specs::Steps::next, jsp_model::specs::Answers::said))]
-pub fn make_hand_out(
+pub(crate) fn make_hand_out(
     alloc: Global,
     state: &mut State,
     session: u64,

@@ -16,11 +16,7 @@ use jsp_wire::Search;
 use std::alloc::Global;
 
 /// The first row that a take may be given, if there is one: the one with the least number.
-pub fn first_offered(
-    alloc: Global,
-    state: &State,
-    search: &Search,
-) -> Result<Option<u64>, NoMemory>
+pub fn first_offered(alloc: Global, state: &State, search: &Search) -> Result<Option<u64>, NoMemory>
     requires built { IsTrue (is_built (ask.Take search.now)) }
     requires fault { template_fault state.now.classes search.now.template ≡ None }
     ensures { IfOk result (λ n. n ≡ slice_get (offered state.now search.now) 0) }
@@ -31,7 +27,7 @@ pub fn first_offered(
 }
 
 /// Whether the row of this number may be given to the take.
-pub fn may_be_given(
+pub(crate) fn may_be_given(
     alloc: Global,
     state: &State,
     search: &Search,
@@ -66,7 +62,9 @@ fn first_number(state: &State, space: u64, template: &Template) -> Option<u64>
     ensures { result ≡ option_map (λ r. r.number) (find (offers state.now.classes space template.now) state.now.rows) }
 {
     let rows = state.rows.as_slice();
-    let found = rows.iter().find(|row| is_offered(&state.classes, space, template, row));
+    let found = rows
+        .iter()
+        .find(|row| is_offered(&state.classes, space, template, row));
     match found {
         None => None,
         Some(row) => Some(row.number),
@@ -77,8 +75,7 @@ fn is_among(state: &State, space: u64, template: &Template, number: u64) -> bool
     ensures { result ≡ list_any (λ r. r.number == number && offers state.now.classes space template.now r) state.now.rows }
 {
     let rows = state.rows.as_slice();
-    rows.iter()
-        .any(|row| row.number == number && is_offered(&state.classes, space, template, row))
+    rows.iter().any(|row| row.number == number && is_offered(&state.classes, space, template, row))
 }
 
 fn is_offered(classes: &Classes, space: u64, template: &Template, row: &Row) -> bool

@@ -11,13 +11,13 @@ use std::alloc::Global;
 /// Where an answer was posted: in an outbox that was opened for it, or at the end of one that was
 /// there.
 #[derive(Clone, Copy, Debug)]
-pub enum Posted {
+pub(crate) enum Posted {
     Opened { place: usize },
     Added { place: usize },
 }
 
 /// Adds an answer at the end of a session's outbox, whole or not at all.
-pub fn post(
+pub(crate) fn post(
     alloc: Global,
     outboxes: &mut Items<Outbox>,
     session: u64,
@@ -42,7 +42,7 @@ pub fn post(
 }
 
 /// Takes back the answer that was posted last.
-pub fn take_back(outboxes: &mut Items<Outbox>, posted: Posted)
+pub(crate) fn take_back(outboxes: &mut Items<Outbox>, posted: Posted)
     ensures { outboxes.new ≡ before posted outboxes.old }
 {
     match posted {
@@ -98,7 +98,7 @@ fn first_from(outboxes: &[Outbox], session: u64) -> Option<usize>
 
 /// Takes the first answers of a session's outbox, so many, whole or not at all. An outbox that is
 /// left empty goes.
-pub fn take_first(
+pub(crate) fn take_first(
     outboxes: &mut Items<Outbox>,
     place: usize,
     count: usize,
@@ -108,7 +108,10 @@ pub fn take_first(
     ensures err { OnErr result (outboxes.new ≡ outboxes.old) }
 {
     if outboxes.items[place].answers.items.len() <= count {
-        let Outbox { session: _, answers } = outboxes.items.remove(place);
+        let Outbox {
+            session: _,
+            answers,
+        } = outboxes.items.remove(place);
         return Ok(answers.into_vec());
     }
     let outbox = &mut outboxes.items[place];
@@ -117,7 +120,7 @@ pub fn take_first(
 }
 
 /// The place of a session's outbox.
-pub fn place_of(outboxes: &[Outbox], session: u64) -> Option<usize>
+pub(crate) fn place_of(outboxes: &[Outbox], session: u64) -> Option<usize>
     ensures { result ≡ position (λ b. b.session == session) outboxes.now }
 {
     outboxes.iter().position(|b| b.session == session)

@@ -35,7 +35,7 @@ pub fn refusal(
 }
 
 /// The class that a request declares, without the fields whose kind is none.
-pub fn class_asked(alloc: Global, declare: &Declare) -> Result<Class, NoMemory>
+pub(crate) fn class_asked(alloc: Global, declare: &Declare) -> Result<Class, NoMemory>
     ensures { IfOk result (λ c. c ≡ class_of declare.now) }
 {
     let fields = kinded(alloc, declare.fields.as_slice())?;
@@ -46,10 +46,7 @@ pub fn class_asked(alloc: Global, declare: &Declare) -> Result<Class, NoMemory>
     Class::new(alloc, declare.class.as_str(), parent, fields.as_slice())
 }
 
-fn kinded(
-    alloc: Global,
-    fields: &[(Text, Option<Kind>)],
-) -> Result<Items<(Text, Kind)>, NoMemory>
+fn kinded(alloc: Global, fields: &[(Text, Option<Kind>)]) -> Result<Items<(Text, Kind)>, NoMemory>
     ensures { IfOk result (λ v. v ≡ fields_with_kind fields.now) }
 {
     let mut found = Items::new(alloc);
@@ -59,10 +56,7 @@ fn kinded(
     Ok(found)
 }
 
-fn add_kinded(
-    found: &mut Items<(Text, Kind)>,
-    field: &(Text, Option<Kind>),
-) -> Result<(), NoMemory>
+fn add_kinded(found: &mut Items<(Text, Kind)>, field: &(Text, Option<Kind>)) -> Result<(), NoMemory>
     ensures { OnOk result (found.new ≡ found.old ++ fields_with_kind (field.now ∷ [])) }
 {
     match field.1 {

@@ -57,11 +57,7 @@ pub fn replay(alloc: Global, config: &Config, steps: &[Step]) -> Result<Replayed
 /// Runs the steps from a state.
 ///
 /// Ok exactly where they are a run from it, want of memory apart.
-pub fn replay_from(
-    alloc: Global,
-    base: &Image,
-    steps: &[Step],
-) -> Result<Replayed, ReplayFault>
+pub fn replay_from(alloc: Global, base: &Image, steps: &[Step]) -> Result<Replayed, ReplayFault>
     ensures run { OnOk result (IsRun base.now steps.now) }
     ensures image { IfOk result (λ r. r.image ≡ state_after base.now steps.now) }
     ensures said { IfOk result (λ r. r.said.items ≡ said_in base.now steps.now) }

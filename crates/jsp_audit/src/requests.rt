@@ -23,7 +23,7 @@ use jsp_wire::{Ask, Asked, Declare, Search, Write};
 use std::alloc::Global;
 
 /// Answers a request and makes what it changes, whole or not at all.
-pub fn make_ask(
+pub(crate) fn make_ask(
     alloc: Global,
     state: &mut State,
     session: u64,

@@ -10,7 +10,7 @@ use jsp_types::NoMemory;
 use jsp_wire::Version;
 
 /// Opens a session, whole or not at all.
-pub fn open(state: &mut State, session: u64) -> Result<(), NoMemory>
+pub(crate) fn open(state: &mut State, session: u64) -> Result<(), NoMemory>
     ensures ok { OnOk result (state.new ≡ open_session state.old session) }
     ensures err { OnErr result (state.new ≡ state.old) }
 {
@@ -23,7 +23,7 @@ pub fn open(state: &mut State, session: u64) -> Result<(), NoMemory>
 }
 
 /// Closes a session. What it waits for goes with it: nothing does yet.
-pub fn close(state: &mut State, session: u64)
+pub(crate) fn close(state: &mut State, session: u64)
     requires { IsWithinLimits state.old }
     ensures { state.new ≡ closed state.old session }
 {
@@ -41,7 +41,7 @@ fn forget(sessions: &mut Vec<Session>, session: u64)
 const LAST_TIME: u64 = 1 << 62;
 
 /// Takes a reading of the clock: the time is the greatest reading so far.
-pub fn set_clock(state: &mut State, time: u64)
+pub(crate) fn set_clock(state: &mut State, time: u64)
     ensures { state.new ≡ at_time state.old time }
 {
     state.time = state.time.max(time.min(LAST_TIME));

@@ -147,10 +147,11 @@ write_changes : (st : State) (w : WriteRequest) → Lives st.transactions (calle
 write_changes st w l =
     let j = joining st (caller_of w.txn) (place_of st w.space) in
     subst (λ k. Accepts st (fold (λ st raw. add_row st (new_row st w raw)) k w.entries)) (sym j.is)
-      (fold_keeps Good (λ st raw. add_row st (new_row st w raw)) (λ b raw g. (
-          both g.0 (then_ (put (new_row b w raw) refl refl refl g.1) (one (owes (new_row b w raw) (has_last b.rows (new_row b w raw))))),
-          g.1))
-        w.entries (record st { transactions = j.ts }) (j.changes, lives_in st.transactions j.ts (caller_of w.txn) j.grows l)).0
+    (fold_keeps Good (λ st raw. add_row st (new_row st w raw)) (λ b raw g. (
+      both g.0 (then_ (put (new_row b w raw) refl refl refl g.1) (one (owes (new_row b w raw) (has_last b.rows (new_row b w raw))))),
+      g.1,
+    ))
+    w.entries (record st { transactions = j.ts }) (j.changes, lives_in st.transactions j.ts (caller_of w.txn) j.grows l)).0
   where
     Good : State → Type 0
     Good b = Changes plain st b × Lives b.transactions (caller_of w.txn)
@@ -169,39 +170,39 @@ seek_changes st s id q ns l e =
     let j = joining st (caller_of q.txn) (place_of st q.space) in
     let l' : Lives j.ts (caller_of q.txn) = lives_in st.transactions j.ts (caller_of q.txn) j.grows l in
     subst (λ k. Accepts st (cond (would_block st s id q) (block k b) (give k b ns))) (sym j.is)
-      (choice (would_block st s id q) _ _ (both j.changes (one (blocks b refl l'))) (both j.changes (one (gives b ns l' (choice_available st b ns e)))))
+    (choice (would_block st s id q) _ _ (both j.changes (one (blocks b refl l'))) (both j.changes (one (gives b ns l' (choice_available st b ns e)))))
 
 register_changes : (st : State) (s : ℕ) (q : Notify) → Lives st.transactions (caller_of q.txn) → Accepts st (register st s q)
 register_changes st s q l =
     let j = joining st (caller_of q.txn) (place_of st q.space) in
     let r : Registration = record {
-        number = st.next_number;
-        space = place_of st q.space;
-        template = template_of st.classes q.template;
-        transaction = caller_of q.txn;
-        session = s;
-        handback = q.handback;
-        end = st.time + ms_of q.lease;
-        sequence = 0;
-        owed = [];
-      } in
+      number = st.next_number;
+      space = place_of st q.space;
+      template = template_of st.classes q.template;
+      transaction = caller_of q.txn;
+      session = s;
+      handback = q.handback;
+      end = st.time + ms_of q.lease;
+      sequence = 0;
+      owed = [];
+    } in
     subst (λ (k : State). Accepts st (record k { registrations = st.registrations ++ r ∷ []; next_number = st.next_number + 1 })) (sym j.is)
-      (both j.changes (one (registers r refl refl (lives_in st.transactions j.ts (caller_of q.txn) j.grows l))))
+    (both j.changes (one (registers r refl refl (lives_in st.transactions j.ts (caller_of q.txn) j.grows l))))
 
 open_set_changes : (st : State) (s : ℕ) (q : Contents) → Lives st.transactions (caller_of q.txn) → Accepts st (open_set st s q)
 open_set_changes st s q l =
     let j = joining st (caller_of q.txn) (place_of st q.space) in
     let m : MatchSet = record {
-        number = st.next_number;
-        session = s;
-        space = place_of st q.space;
-        template = template_of st.classes q.template;
-        transaction = caller_of q.txn;
-        end = st.time + ms_of q.lease;
-        cursor = 0;
-      } in
+      number = st.next_number;
+      session = s;
+      space = place_of st q.space;
+      template = template_of st.classes q.template;
+      transaction = caller_of q.txn;
+      end = st.time + ms_of q.lease;
+      cursor = 0;
+    } in
     subst (λ (k : State). Accepts st (record k { sets = st.sets ++ m ∷ []; next_number = st.next_number + 1 })) (sym j.is)
-      (both j.changes (one (opens m refl (lives_in st.transactions j.ts (caller_of q.txn) j.grows l))))
+    (both j.changes (one (opens m refl (lives_in st.transactions j.ts (caller_of q.txn) j.grows l))))
 
 reset_changes : (st : State) (space : ℕ) → Accepts st (reset st space)
 reset_changes st space = then_ (keep_rows _) (then_ (keep_registrations _) (then_ (keep_blocked _) (then_ (keep_sets _) (one (other st.classes (reset st space).spaces st.sessions st.last_session st.time st.outboxes)))))
@@ -252,24 +253,25 @@ freed_stands x rows row e h =
     let w : (is_caller row.writer x ≡ true) × (not (is_caller row.taker x) ≡ true) = and_both (is_caller row.writer x) (not (is_caller row.taker x)) e in
     let a : Has (filter (λ row. not (is_caller row.taker x)) rows) row = has_kept (λ row. not (is_caller row.taker x)) rows row w.1 h in
     let b : Has (update (λ row. is_caller row.writer x) (λ (row : Row). record row { writer = None }) (filter (λ row. not (is_caller row.taker x)) rows))
-            (cond (is_caller row.writer x) (record row { writer = None }) row)
-        = has_mapped (λ row. cond (is_caller row.writer x) (record row { writer = None }) row) _ row a in
+    (cond (is_caller row.writer x) (record row { writer = None }) row)
+    = has_mapped (λ row. cond (is_caller row.writer x) (record row { writer = None }) row) _ row a in
     let k : cond (is_caller row.writer x) (record row { writer = None }) row ≡ record row { writer = None } = rw w.0 refl in
     let d : Has (update (λ row. is_caller row.writer x) (λ (row : Row). record row { writer = None }) (filter (λ row. not (is_caller row.taker x)) rows)) (record row { writer = None })
-        = subst (λ z. Has (update (λ row. is_caller row.writer x) (λ (row : Row). record row { writer = None }) (filter (λ row. not (is_caller row.taker x)) rows)) z) k b in
+    = subst (λ z. Has (update (λ row. is_caller row.writer x) (λ (row : Row). record row { writer = None }) (filter (λ row. not (is_caller row.taker x)) rows)) z) k b in
     has_mapped (unread x) _ (record row { writer = None }) d
 
 commit_changes : (st : State) (x : ℕ) → Changes (record { committed = Some x; vote = None }) st (commit st x)
 commit_changes st x =
     (fold_keeps_each Stands Good (owe None)
-      (λ b row h g. (both g.0 (one (owes (freed x row) (subst (λ rows. Has rows (freed x row)) (sym g.1) h))), g.1))
-      (published x st.rows)
-      (each_kept (Has st.rows) Stands (written_by x) (λ row e h. freed_stands x st.rows row e h) st.rows (each_itself st.rows))
-      (record (forget st x) { rows = committed x st.rows })
-      (one (commits x refl), refl)).0
+    (λ b row h g. (both g.0 (one (owes (freed x row) (subst (λ rows. Has rows (freed x row)) (sym g.1) h))), g.1))
+    (published x st.rows)
+    (each_kept (Has st.rows) Stands (written_by x) (λ row e h. freed_stands x st.rows row e h) st.rows (each_itself st.rows))
+    (record (forget st x) { rows = committed x st.rows })
+    (one (commits x refl), refl)).0
   where
     Stands : Row → Type 0
     Stands row = Has (committed x st.rows) (freed x row)
+
     Good : State → Type 0
     Good b = Changes (record { committed = Some x; vote = None }) st b × (b.rows ≡ committed x st.rows)
 
@@ -296,7 +298,7 @@ vote_changes {c = c} st x space (Some j) w k e =
     let here : j.space ≡ space = eqb-true j.space space (found_passes (λ i. i.space == space) (joined_of st x) j k) in
     let at : joined_at st x j.space ≡ Some j = subst (λ z. joined_at st x z ≡ Some j) (sym here) k in
     then_ (transact (voted x j at (is_none_none j.vote e) (subst (λ z. c.vote ≡ Some (x, z, crash_count st z)) (sym here) w)))
-      (one (touch_rows (λ row. is_not_changed (vote_of st x j) && row.space == j.space) (unread x) (release_same true x)))
+    (one (touch_rows (λ row. is_not_changed (vote_of st x j) && row.space == j.space) (unread x) (release_same true x)))
 
 -- ---- each step
 

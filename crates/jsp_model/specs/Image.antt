@@ -1,5 +1,5 @@
 -- The limits that every state keeps.
-use Rattle.std.specs.Prelude.{◌≡◌, ℕ, ◌+◌, ◌^◌, ◌≤◌, Bool, true, ◌&&◌, ◌==◌, nat_lt, nat_le, List, [], ◌∷◌, map, length, filter, Option, IsTrue}
+use Rattle.std.specs.Prelude.{◌≡◌, ℕ, ◌+◌, ◌^◌, ◌≤◌, Bool, true, ◌&&◌, ◌==◌, nat_lt, nat_le, List, [], ◌∷◌, map, length, filter, IsTrue}
 use Rattle.std.specs.List.{list_all}
 use Rattle.jsp_types.specs.Matching.{is_small}
 use Rattle.jsp_model.specs.declared.state.State.{State}

@@ -16,11 +16,18 @@ use jsp_wire::Asked;
 pub enum Input {
     /// A session is opened. Passed over where its number isn't above all earlier ones and from 1
     /// to 2^31.
-    Open { session: u64 },
+    Open {
+        session: u64,
+    },
     /// A reading of the clock, in milliseconds.
-    Clock { time: u64 },
+    Clock {
+        time: u64,
+    },
     /// A session's request. Passed over where the session isn't open.
-    Ask { session: u64, asked: Asked },
+    Ask {
+        session: u64,
+        asked: Asked,
+    },
     /// A session's bytes that are no request. Passed over where the session isn't open. The
     /// caller's condition: the refusal is `BadJson`, `BadRequest` or `TooLong`.
     Fault {

@@ -2,7 +2,9 @@
 ghost use Rattle.std.specs.Prelude.{◌≡◌, IfOk};
 ghost use Rattle.jsp_model.specs.Image.{IsWithinLimits};
 
-use crate::{Blocked, Commit, MatchSet, Outbox, Registration, Row, Session, Space, State, Transaction};
+use crate::{
+    Blocked, Commit, MatchSet, Outbox, Registration, Row, Session, Space, State, Transaction,
+};
 use jsp_reply::Said;
 use jsp_types::{Classes, Items, NoMemory};
 use std::alloc::Global;

@@ -1,3 +1,5 @@
+ghost use Rattle.std.specs.Prelude.{◌≡◌, IfOk};
+
 use crate::{
     Class, ClassFault, Classes, Entry, EntryFault, Items, Kind, NoMemory, Raw, Template, Text,
     Value, check_entry, check_template, entry_fault, matches, template_fault,
@@ -5,71 +7,120 @@ use crate::{
 use std::alloc::Global;
 use std::test::Fail;
 
-const NO_FIELDS: [(&str, Kind); 0] = [];
+fn kind_named(name: &str) -> Kind {
+    match name {
+        "int" => Kind::Int,
+        "text" => Kind::Text,
+        _ => Kind::Bool,
+    }
+}
 
-fn fields_of(alloc: Global, named: &[(&str, Kind)]) -> Result<Items<(Text, Kind)>, NoMemory> {
+/// The fields of a line as `k:int who:text`.
+fn fields_in(alloc: Global, line: &str) -> Result<Items<(Text, Kind)>, NoMemory> {
     let mut fields = Items::new(alloc);
-    for (name, kind) in named {
-        fields.push((Text::from_str(alloc, name)?, *kind))?;
+    for word in line.split_whitespace() {
+        let (name, kind) = word.split_once(':').unwrap_or((word, ""));
+        fields.push((Text::from_str(alloc, name)?, kind_named(kind)))?;
     }
     Ok(fields)
+}
+
+/// The class of a parent (none where it is empty) and fields as above.
+fn class_in(alloc: Global, name: &str, parent: &str, fields: &str) -> Result<Class, NoMemory> {
+    let fields = fields_in(alloc, fields)?;
+    let parent = if parent.is_empty() {
+        None
+    } else {
+        Some(parent)
+    };
+    Class::new(alloc, name, parent, fields.as_slice())
 }
 
 fn declare(
     alloc: Global,
     classes: &mut Classes,
     name: &str,
-    parent: Option<&str>,
-    named: &[(&str, Kind)],
+    parent: &str,
+    fields: &str,
 ) -> Result<(), ClassFault> {
-    let fields = fields_of(alloc, named)?;
+    let fields = fields_in(alloc, fields)?;
+    let parent = if parent.is_empty() {
+        None
+    } else {
+        Some(parent)
+    };
     classes.declare(name, parent, fields.as_slice())
 }
 
 /// Job with k and who, and Rush with n under it.
 fn jobs(alloc: Global) -> Result<Classes, ClassFault> {
     let mut classes = Classes::new(alloc);
-    let own = [("who", Kind::Text), ("k", Kind::Int)];
-    declare(alloc, &mut classes, "Job", None, &own)?;
-    declare(
-        alloc,
-        &mut classes,
-        "Rush",
-        Some("Job"),
-        &[("n", Kind::Int)],
-    )?;
+    declare(alloc, &mut classes, "Job", "", "who:text k:int")?;
+    declare(alloc, &mut classes, "Rush", "Job", "n:int")?;
     Ok(classes)
 }
 
-fn raw(alloc: Global, class: &str) -> Result<Raw, NoMemory> {
-    Ok(Raw {
-        class: Text::from_str(alloc, class)?,
-        fields: Items::new(alloc),
+fn value_in(alloc: Global, word: &str) -> Result<Value, NoMemory> {
+    Ok(match word {
+        "null" => Value::Null,
+        "true" => Value::Bool(true),
+        "1" => Value::Int(1),
+        "2" => Value::Int(2),
+        _ => Value::Text(Text::from_str(alloc, word)?),
     })
 }
 
-fn with(alloc: Global, mut raw: Raw, name: &str, value: Value) -> Result<Raw, NoMemory> {
-    raw.fields.push((Text::from_str(alloc, name)?, value))?;
-    Ok(raw)
-}
-
-fn text(alloc: Global, text: &str) -> Result<Value, NoMemory> {
-    Ok(Value::Text(Text::from_str(alloc, text)?))
-}
-
-/// The names of the fields, each with its value, in their order.
-fn shown(alloc: Global, entry: &Entry) -> Result<String, NoMemory> {
-    let mut shown = String::new(alloc);
-    for (name, value) in entry.fields.as_slice() {
-        let field = match value {
-            Value::Null => format!(in alloc; "{}=null ", name.as_str())?,
-            Value::Int(n) => format!(in alloc; "{}={n} ", name.as_str())?,
-            Value::Text(text) => format!(in alloc; "{}={} ", name.as_str(), text.as_str())?,
-            Value::Bool(b) => format!(in alloc; "{}={b} ", name.as_str())?,
-        };
-        shown.push_str(field.as_str())?;
+/// The entry or template of a line as `k=1 who=`.
+fn raw_in(alloc: Global, class: &str, line: &str) -> Result<Raw, NoMemory> {
+    let mut fields = Items::new(alloc);
+    for word in line.split_whitespace() {
+        let (name, value) = word.split_once('=').unwrap_or((word, "null"));
+        fields.push((Text::from_str(alloc, name)?, value_in(alloc, value)?))?;
     }
-    Ok(shown)
+    Ok(Raw {
+        class: Text::from_str(alloc, class)?,
+        fields,
+    })
+}
+
+fn entry_in(
+    alloc: Global,
+    classes: &Classes,
+    class: &str,
+    line: &str,
+) -> Result<Entry, EntryFault> {
+    let raw = raw_in(alloc, class, line)?;
+    check_entry(alloc, classes, &raw)
+}
+
+/// The null template where the class is empty.
+fn template_in(
+    alloc: Global,
+    classes: &Classes,
+    class: &str,
+    line: &str,
+) -> Result<Template, EntryFault> {
+    let raw = raw_in(alloc, class, line)?;
+    check_template(
+        alloc,
+        classes,
+        if class.is_empty() { None } else { Some(&raw) },
+    )
+}
+
+/// A line of the entry's fields and values.
+fn shown(alloc: Global, entry: &Entry) -> Result<String, NoMemory> {
+    let mut line = String::new(alloc);
+    for (name, value) in entry.fields.as_slice() {
+        line.push_str(name.as_str())?;
+        line.push_str(match value {
+            Value::Null => "=null ",
+            Value::Int(1) => "=1 ",
+            Value::Text(_) => "=text ",
+            _ => "=? ",
+        })?;
+    }
+    Ok(line)
 }
 
 #[test]
@@ -79,7 +130,7 @@ fn inherited_fields_come_first(rt: HostRuntime) -> Result<(), Fail> {
     assert_eq!(rt; rush.len(), 3);
     assert!(rt; rush[0].0.is("k") && rush[0].1.is(Kind::Int));
     assert!(rt; rush[1].0.is("who") && rush[1].1.is(Kind::Text));
-    assert!(rt; rush[2].0.is("n") && rush[2].1.is(Kind::Int));
+    assert!(rt; rush[2].0.is("n"));
     assert!(rt; classes.fields_of("rush").is_none());
     assert!(rt; classes.is_sub("Rush", "Job") && !classes.is_sub("Job", "Rush"));
     assert!(rt; classes.is_sub("Rush", "Rush") && !classes.is_sub("Other", "Job"));
@@ -90,30 +141,43 @@ fn inherited_fields_come_first(rt: HostRuntime) -> Result<(), Fail> {
 fn templates_match(rt: HostRuntime) -> Result<(), Fail> {
     let alloc = rt.alloc();
     let classes = jobs(alloc)?;
-    let rush = with(alloc, raw(alloc, "Rush")?, "n", Value::Int(9))?;
-    let rush = check_entry(alloc, &classes, &with(alloc, rush, "k", Value::Int(5))?)?;
-    assert_eq!(rt; shown(alloc, &rush)?.as_str(), "k=5 who=null n=9 ");
-    let job = with(alloc, raw(alloc, "Job")?, "who", text(alloc, "")?)?;
-    let job = check_entry(alloc, &classes, &job)?;
-    assert_eq!(rt; shown(alloc, &job)?.as_str(), "k=null who= ");
+    let rush = entry_in(alloc, &classes, "Rush", "n=2 k=1")?;
+    let job = entry_in(alloc, &classes, "Job", "who=")?;
+    for (class, line, of_rush, of_job) in [
+        ("", "", true, true),
+        ("Job", "", true, true),
+        ("Job", "k who", true, true),
+        ("Rush", "", true, false),
+        ("Job", "k=1", true, false),
+        ("Job", "k=2", false, false),
+        ("Job", "who=", false, true),
+    ] {
+        let template = template_in(alloc, &classes, class, line)?;
+        assert_eq!(rt;
+            matches(&classes, &template, &rush),
+            of_rush,
+            "{class} {line}"
+        );
+        assert_eq!(rt;
+            matches(&classes, &template, &job),
+            of_job,
+            "{class} {line}"
+        );
+    }
+    Ok(())
+}
 
-    let any = check_template(alloc, &classes, None)?;
-    let all_jobs = check_template(alloc, &classes, Some(&raw(alloc, "Job")?))?;
-    let all_rushes = check_template(alloc, &classes, Some(&raw(alloc, "Rush")?))?;
-    let fifth = with(alloc, raw(alloc, "Job")?, "k", Value::Int(5))?;
-    let fifth = check_template(alloc, &classes, Some(&fifth))?;
-    let nobody = with(alloc, raw(alloc, "Job")?, "who", text(alloc, "")?)?;
-    let nobody = check_template(alloc, &classes, Some(&nobody))?;
-    let rows: [(&Template, bool, bool); 5] = [
-        (&any, true, true),
-        (&all_jobs, true, true),
-        (&all_rushes, true, false),
-        (&fifth, true, false),
-        (&nobody, false, true),
-    ];
-    for (template, of_rush, of_job) in rows {
-        assert_eq!(rt; matches(&classes, template, &rush), of_rush);
-        assert_eq!(rt; matches(&classes, template, &job), of_job);
+#[test]
+fn absent_fields_are_null(rt: HostRuntime) -> Result<(), Fail> {
+    let alloc = rt.alloc();
+    let classes = jobs(alloc)?;
+    for (class, line, want) in [
+        ("Job", "", "k=null who=null "),
+        ("Rush", "n=1 who=Ann", "k=null who=text n=1 "),
+    ] {
+        let entry = entry_in(alloc, &classes, class, line)?;
+        let shown = shown(alloc, &entry)?;
+        assert_eq!(rt; shown.as_str(), want);
     }
     Ok(())
 }
@@ -122,27 +186,22 @@ fn templates_match(rt: HostRuntime) -> Result<(), Fail> {
 fn entries_are_refused(rt: HostRuntime) -> Result<(), Fail> {
     let alloc = rt.alloc();
     let classes = jobs(alloc)?;
-    let unknown = with(alloc, raw(alloc, "Other")?, "x", Value::Null)?;
-    assert_eq!(rt;
-        check_entry(alloc, &classes, &unknown).err(),
-        Some(EntryFault::UnknownClass)
-    );
-    assert_eq!(rt;
-        template_fault(&classes, Some(&unknown)),
-        Some(EntryFault::UnknownClass)
-    );
-    assert_eq!(rt; template_fault(&classes, None), None);
-    let twice = with(alloc, raw(alloc, "Job")?, "k", Value::Null)?;
-    let twice = with(alloc, twice, "k", Value::Null)?;
-    let lower = with(alloc, raw(alloc, "Job")?, "n", Value::Int(1))?;
-    let other_kind = with(alloc, raw(alloc, "Job")?, "k", Value::Bool(true))?;
-    for bad in [&twice, &lower, &other_kind] {
-        assert_eq!(rt; entry_fault(&classes, bad), Some(EntryFault::BadEntry));
+    for (class, line, fault) in [
+        ("Other", "x", EntryFault::UnknownClass),
+        ("Job", "k=1 k=1", EntryFault::BadEntry),
+        ("Job", "n=1", EntryFault::BadEntry),
+        ("Job", "k=true", EntryFault::BadEntry),
+        ("Job", "who=1", EntryFault::BadEntry),
+    ] {
+        let raw = raw_in(alloc, class, line)?;
+        assert_eq!(rt; entry_fault(&classes, &raw), Some(fault), "{class} {line}");
         assert_eq!(rt;
-            check_entry(alloc, &classes, bad).err(),
-            Some(EntryFault::BadEntry)
+            template_fault(&classes, Some(&raw)),
+            Some(fault),
+            "{class} {line}"
         );
     }
+    assert_eq!(rt; template_fault(&classes, None), None);
     Ok(())
 }
 
@@ -155,28 +214,22 @@ fn letters(alloc: Global, count: usize) -> Result<String, NoMemory> {
     Ok(letters)
 }
 
+/// A Job with a text of that many bytes.
+fn long_job(alloc: Global, len: usize) -> Result<Raw, NoMemory> {
+    let mut raw = raw_in(alloc, "Job", "")?;
+    let text = Text::from_string(letters(alloc, len)?);
+    raw.fields
+        .push((Text::from_str(alloc, "who")?, Value::Text(text)))?;
+    Ok(raw)
+}
+
 #[test]
-fn texts_are_limited_together(rt: HostRuntime) -> Result<(), Fail> {
+fn texts_are_limited(rt: HostRuntime) -> Result<(), Fail> {
     let alloc = rt.alloc();
-    let mut classes = jobs(alloc)?;
-    declare(
-        alloc,
-        &mut classes,
-        "Note",
-        Some("Job"),
-        &[("body", Kind::Text)],
-    )?;
-    for (who, body, fault) in [
-        (0, 8192, None),
-        (0, 8193, Some(EntryFault::BadEntry)),
-        (4096, 4096, None),
-        (4096, 4097, Some(EntryFault::BadEntry)),
-    ] {
-        let who = text(alloc, letters(alloc, who)?.as_str())?;
-        let body = text(alloc, letters(alloc, body)?.as_str())?;
-        let note = with(alloc, raw(alloc, "Note")?, "who", who)?;
-        let note = with(alloc, note, "body", body)?;
-        assert_eq!(rt; entry_fault(&classes, &note), fault);
+    let classes = jobs(alloc)?;
+    for (len, fault) in [(8192, None), (8193, Some(EntryFault::BadEntry))] {
+        let job = long_job(alloc, len)?;
+        assert_eq!(rt; entry_fault(&classes, &job), fault);
     }
     Ok(())
 }
@@ -185,54 +238,23 @@ fn texts_are_limited_together(rt: HostRuntime) -> Result<(), Fail> {
 fn faults_come_in_order(rt: HostRuntime) -> Result<(), Fail> {
     let alloc = rt.alloc();
     let mut classes = jobs(alloc)?;
-    let k = ("k", Kind::Int);
-    let twice = [k, k];
-    let rows: [(&str, Option<&str>, &[(&str, Kind)], Option<ClassFault>); 11] = [
-        ("Job", None, &[k, ("who", Kind::Text)], None),
-        ("Job", None, &twice, Some(ClassFault::BadClass)),
-        (
-            "Job",
-            None,
-            &[("a b", Kind::Int)],
-            Some(ClassFault::BadClass),
-        ),
-        ("", Some("Other"), &NO_FIELDS, Some(ClassFault::BadClass)),
-        (
-            "Job",
-            None,
-            &[k, ("who", Kind::Int)],
-            Some(ClassFault::Differs),
-        ),
-        (
-            "Job",
-            Some("Other"),
-            &[k, ("who", Kind::Text)],
-            Some(ClassFault::Differs),
-        ),
-        ("Rush", None, &[("n", Kind::Int)], Some(ClassFault::Differs)),
-        (
-            "New",
-            Some("a b"),
-            &NO_FIELDS,
-            Some(ClassFault::UnknownParent),
-        ),
-        (
-            "New",
-            Some("New"),
-            &NO_FIELDS,
-            Some(ClassFault::UnknownParent),
-        ),
-        ("New", Some("Rush"), &[k], Some(ClassFault::BadClass)),
-        ("a.B_9$", Some("Rush"), &NO_FIELDS, None),
-    ];
-    for (name, parent, named, fault) in rows {
-        let fields = fields_of(alloc, named)?;
-        let class = Class::new(alloc, name, parent, fields.as_slice())?;
-        assert_eq!(rt; classes.fault(&class), fault);
-        assert_eq!(rt;
-            classes.declare(name, parent, fields.as_slice()).err(),
-            fault
-        );
+    for (name, parent, fields, fault) in [
+        ("Job", "", "k:int who:text", None),
+        ("Job", "", "k:int k:int", Some(ClassFault::BadClass)),
+        ("Job", "", "a-b", Some(ClassFault::BadClass)),
+        ("", "Other", "", Some(ClassFault::BadClass)),
+        ("Job", "", "k:int who:int", Some(ClassFault::Differs)),
+        ("Job", "Other", "k:int who:text", Some(ClassFault::Differs)),
+        ("Rush", "", "n:int", Some(ClassFault::Differs)),
+        ("New", "a-b", "", Some(ClassFault::UnknownParent)),
+        ("New", "New", "", Some(ClassFault::UnknownParent)),
+        ("New", "Rush", "k:int", Some(ClassFault::BadClass)),
+        ("a.B_9$", "Rush", "", None),
+    ] {
+        let class = class_in(alloc, name, parent, fields)?;
+        assert_eq!(rt; classes.fault(&class), fault, "{name} {parent} {fields}");
+        let done = declare(alloc, &mut classes, name, parent, fields);
+        assert_eq!(rt; done.err(), fault, "{name} {parent} {fields}");
     }
     assert_eq!(rt; classes.len(), 3);
     Ok(())
@@ -242,88 +264,119 @@ fn faults_come_in_order(rt: HostRuntime) -> Result<(), Fail> {
 fn names_are_limited(rt: HostRuntime) -> Result<(), Fail> {
     let alloc = rt.alloc();
     let mut classes = Classes::new(alloc);
-    let longest = letters(alloc, 64)?;
-    let longer = letters(alloc, 65)?;
-    let field = [(longest.as_str(), Kind::Int)];
-    declare(alloc, &mut classes, longest.as_str(), None, &field)?;
-    let refused = declare(alloc, &mut classes, longer.as_str(), None, &NO_FIELDS);
-    assert_eq!(rt; refused.err(), Some(ClassFault::BadClass));
-    let field = [(longer.as_str(), Kind::Int)];
-    let refused = declare(alloc, &mut classes, "New", None, &field);
-    assert_eq!(rt; refused.err(), Some(ClassFault::BadClass));
+    for (len, fault) in [(64, None), (65, Some(ClassFault::BadClass))] {
+        let name = letters(alloc, len)?;
+        let done = declare(alloc, &mut classes, name.as_str(), "", "");
+        assert_eq!(rt; done.err(), fault);
+        let done = declare(alloc, &mut classes, "Other", "", name.as_str());
+        assert_eq!(rt; done.err(), fault);
+    }
     Ok(())
 }
 
-/// Declares a class of that many fields, whose names begin so.
+/// Declares a class of that many fields.
 fn declare_wide(
     alloc: Global,
     classes: &mut Classes,
     name: &str,
-    parent: Option<&str>,
+    parent: &str,
     count: usize,
 ) -> Result<(), ClassFault> {
-    let mut fields = Items::new(alloc);
+    let mut fields = String::new(alloc);
     for place in 0..count {
-        let field = format!(in alloc; "{name}{place}")?;
-        fields
-            .push((Text::from_string(field), Kind::Bool))
-            .map_err(|_| ClassFault::NoMemory)?;
+        let field = format!(in alloc; "{name}{place} ")?;
+        fields.push_str(field.as_str())?;
     }
-    classes.declare(name, parent, fields.as_slice())
+    declare(alloc, classes, name, parent, fields.as_str())
 }
 
 #[test]
 fn fields_are_limited(rt: HostRuntime) -> Result<(), Fail> {
     let alloc = rt.alloc();
     let mut classes = Classes::new(alloc);
-    let bad = Some(ClassFault::BadClass);
-    assert_eq!(rt; declare_wide(alloc, &mut classes, "A", None, 33).err(), bad);
-    declare_wide(alloc, &mut classes, "B", None, 32)?;
-    declare_wide(alloc, &mut classes, "C", None, 30)?;
-    assert_eq!(rt;
-        declare_wide(alloc, &mut classes, "D", Some("C"), 3).err(),
-        bad
-    );
-    declare_wide(alloc, &mut classes, "E", Some("C"), 2)?;
-    let other = declare_wide(alloc, &mut classes, "F", Some("Other"), 33);
-    assert_eq!(rt; other.err(), Some(ClassFault::UnknownParent));
+    for (name, parent, count, fault) in [
+        ("A", "", 33, Some(ClassFault::BadClass)),
+        ("B", "", 32, None),
+        ("C", "", 30, None),
+        ("D", "C", 3, Some(ClassFault::BadClass)),
+        ("E", "C", 2, None),
+        ("F", "Other", 33, Some(ClassFault::UnknownParent)),
+    ] {
+        let done = declare_wide(alloc, &mut classes, name, parent, count);
+        assert_eq!(rt; done.err(), fault, "{name}");
+    }
+    Ok(())
+}
+
+/// Classes that are named by the numbers from 0, each under the one before it or each alone.
+fn declare_numbers(
+    alloc: Global,
+    classes: &mut Classes,
+    count: u32,
+    in_line: bool,
+) -> Result<(), ClassFault> {
+    let mut parent = String::new(alloc);
+    for number in 0..count {
+        let name = format!(in alloc; "{number}")?;
+        declare(alloc, classes, name.as_str(), parent.as_str(), "")?;
+        if in_line {
+            parent = name;
+        }
+    }
     Ok(())
 }
 
 #[test]
-fn lines_and_classes_are_limited(rt: HostRuntime) -> Result<(), Fail> {
+fn lines_are_limited(rt: HostRuntime) -> Result<(), Fail> {
     let alloc = rt.alloc();
     let mut classes = Classes::new(alloc);
-    declare(alloc, &mut classes, "C0", None, &[("k", Kind::Int)])?;
-    for depth in 1..16 {
-        let parent = format!(in alloc; "C{}", depth - 1)?;
-        let name = format!(in alloc; "C{depth}")?;
-        declare(
-            alloc,
-            &mut classes,
-            name.as_str(),
-            Some(parent.as_str()),
-            &NO_FIELDS,
-        )?;
-    }
-    let deeper = declare(alloc, &mut classes, "C16", Some("C15"), &NO_FIELDS);
+    declare_numbers(alloc, &mut classes, 16, true)?;
+    assert!(rt; classes.is_sub("15", "0") && !classes.is_sub("14", "15"));
+    let deeper = declare(alloc, &mut classes, "16", "15", "");
     assert_eq!(rt; deeper.err(), Some(ClassFault::BadClass));
-    assert!(rt; classes.is_sub("C15", "C0") && !classes.is_sub("C14", "C15"));
-    for count in 16..1024 {
-        let name = format!(in alloc; "C{count}")?;
-        declare(alloc, &mut classes, name.as_str(), None, &NO_FIELDS)?;
+    Ok(())
+}
+
+/// That a clone is the same is proved here, and that one can be made is run below.
+fn copy_of_classes(classes: &Classes) -> Result<Classes, NoMemory>
+    ensures { IfOk result (λ copy. copy ≡ classes.now) }
+{
+    classes.clone()
+}
+
+fn copy_of_templates(templates: &Items<Template>) -> Result<Items<Template>, NoMemory>
+    ensures { IfOk result (λ copy. copy ≡ templates.now) }
+{
+    templates.clone()
+}
+
+#[test]
+fn templates_are_copied(rt: HostRuntime) -> Result<(), Fail> {
+    let alloc = rt.alloc();
+    let classes = jobs(alloc)?;
+    let mut templates = Items::new(alloc);
+    templates.push(template_in(alloc, &classes, "Job", "k=1")?)?;
+    let copy = copy_of_templates(&templates)?;
+    assert_eq!(rt; copy.as_slice().len(), 1);
+    Ok(())
+}
+
+#[test]
+fn classes_are_limited(rt: HostRuntime) -> Result<(), Fail> {
+    let alloc = rt.alloc();
+    let mut classes = Classes::new(alloc);
+    declare(alloc, &mut classes, "Job", "", "k:int")?;
+    declare_numbers(alloc, &mut classes, 1023, false)?;
+    for (name, parent, fields, fault) in [
+        ("New", "Other", "", Some(ClassFault::UnknownParent)),
+        ("New", "Job", "k:int", Some(ClassFault::BadClass)),
+        ("New", "Job", "", Some(ClassFault::TooMany)),
+        ("1022", "", "", None),
+    ] {
+        let done = declare(alloc, &mut classes, name, parent, fields);
+        assert_eq!(rt; done.err(), fault, "{name} {parent}");
     }
-    assert_eq!(rt; classes.len(), 1024);
-    let full = Some(ClassFault::TooMany);
-    assert_eq!(rt;
-        declare(alloc, &mut classes, "C1024", None, &NO_FIELDS).err(),
-        full
-    );
-    let inherited = [("k", Kind::Int)];
-    let again = declare(alloc, &mut classes, "C1024", Some("C0"), &inherited);
-    assert_eq!(rt; again.err(), Some(ClassFault::BadClass));
-    declare(alloc, &mut classes, "C1023", None, &NO_FIELDS)?;
-    let copy = classes.clone()?;
-    assert!(rt; copy.len() == 1024 && copy.is_sub("C15", "C0"));
+    let copy = copy_of_classes(&classes)?;
+    assert_eq!(rt; copy.len(), 1024);
     Ok(())
 }

@@ -1,5 +1,5 @@
 -- The limits that each request keeps, and which operations are built.
-use Rattle.std.specs.Prelude.{ℕ, ℤ, pos, negsuc, ◌^◌, Bool, true, false, ◌&&◌, ◌||◌, ◌==◌, nat_lt, nat_le, length, Option, is_none}
+use Rattle.std.specs.Prelude.{ℕ, ℤ, pos, negsuc, ◌^◌, Bool, true, false, ◌&&◌, ◌==◌, nat_lt, nat_le, length, if◌then◌else◌, Option, Some, None, is_none}
 use Rattle.jsp_wire.specs.declared.ask.Ask.{Ask}
 use Rattle.jsp_wire.specs.declared.ask.Ask.TheVariants as ask
 use Rattle.jsp_wire.specs.declared.ask.Request.{Request}
@@ -35,3 +35,7 @@ is_built _ = false
 
 abbrev pub is_within_limits : Request → Bool
 is_within_limits r = nat_lt r.id (2 ^ 63) && has_fitting_parts r.ask && is_built r.ask
+
+-- the request, where it keeps the limits and its operation is built
+abbrev pub within_limits : Request → Option Request
+within_limits r = if is_within_limits r then Some r else None

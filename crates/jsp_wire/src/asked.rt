@@ -1,14 +1,15 @@
 //! A request that keeps its limits in its type.
 ghost use Rattle.std.specs.Prelude.{◌≡◌, IsTrue};
-ghost use Rattle.jsp_wire.specs.Limits.{is_within_limits};
+ghost use Rattle.jsp_wire.specs.Limits.{is_within_limits, within_limits};
 
+use crate::limits::is_within_limits;
 use crate::{Ask, Request};
 use std::marker::Model;
 
 /// A request within its limits, of an operation that is built. Contracts see it as the request.
 ///
-/// An id is at most 9,223,372,036,854,775,807, a handback has at most 256 bytes, a batch 1 to 64
-/// leases.
+/// An id is at most 9,223,372,036,854,775,807. A handback has at most 256 bytes, a batch 1 to 64
+/// leases or entries; 1 to 8 templates and 1 to 16 entries are asked for together.
 #[derive(Drop)]
 pub struct Asked {
     request: Request,
@@ -33,6 +34,17 @@ impl Asked {
         ensures { result ≡ request }
     {
         Asked { request }
+    }
+
+    /// The request, if it keeps its limits and its operation is built.
+    pub fn checked(request: Request) -> Option<Asked>
+        ensures { result ≡ within_limits request }
+    {
+        if is_within_limits(&request) {
+            Some(Asked { request })
+        } else {
+            None
+        }
     }
 
     /// The request's id.

@@ -1,0 +1,44 @@
+-- The steps of a closing.
+use Rattle.std.proofs.Common.{◌≡◌, ℕ, Bool, true, false, List, [], ◌∷◌, None, refl, ap, sym, ◌∙◌}
+use Rattle.std.specs.Prelude.{if◌then◌else◌}
+use Rattle.std.specs.HashMap.{HashMap}
+use Rattle.jsp_frame.specs.Unframer.{Incoming}
+use Rattle.jsp_model.specs.declared.state.State.{State}
+use Rattle.jsp_model.specs.declared.step.Step.{Step}
+use Rattle.jsp_model.specs.declared.step.Step.TheVariants as step
+use Rattle.jsp_model.specs.Lookup.{is_open}
+use Rattle.jsp_model.specs.Due.{due}
+use Rattle.jsp_model.specs.Runs.{state_after}
+use Rattle.jsp_model.specs.House.{Makes, own_of, shuts}
+use Rattle.jsp_model.proofs.Closing.{shut_step}
+use Rattle.jsp_model.proofs.Ends.{due_shut}
+use Rattle.jsp_drive.specs.declared.acts.Act.TheVariants as act
+use Rattle.jsp_drive.specs.Lines.{SetsLine}
+use Rattle.jsp_drive.specs.Calls.{Performs}
+
+abbrev Lines : Type 0 → Type 0
+Lines S = HashMap ℕ Incoming S
+
+due_at : (b : Bool) (s : ℕ) (old new : State) → state_after old (if b then step.Shut s ∷ [] else []) ≡ new → due old ≡ None → due new ≡ None
+due_at true s old new view none = ap due (sym view) ∙ due_shut old s none
+due_at false s old new view none = ap due (sym view) ∙ none
+
+own_at : (b : Bool) (s : ℕ) → own_of (if b then step.Shut s ∷ [] else []) ≡ (if b then step.Shut s ∷ [] else [])
+own_at true s = refl
+own_at false s = refl
+
+closed_at : (b : Bool) (s : ℕ) (old new : State) → is_open old s ≡ b → state_after old (if b then step.Shut s ∷ [] else []) ≡ new → is_open new s ≡ false
+closed_at true s old new is view = ap (λ (w : State). is_open w s) (sym view) ∙ shut_step old s
+closed_at false s old new is view = ap (λ (w : State). is_open w s) (sym view) ∙ is
+
+module _ {S : Type 0} where
+  -- the session's line is dropped, and it is closed
+  pub shut_made : (s : ℕ) (old new : State) (log log' : List Step) (lines lines' : Lines S) → SetsLine s [] lines lines' → Makes old new log log' (shuts old s)
+      → Performs (act.Shut s) old new log log' lines lines'
+  shut_made s old new log log' lines lines' dropped makes = record {
+    steps = shuts old s;
+    makes = makes;
+    asks = (own_at (is_open old s) s, closed_at (is_open old s) s old new refl makes.view, dropped.here, dropped.others);
+    nothing_due = due_at (is_open old s) s old new makes.view;
+    are_lines = dropped.lines;
+  }

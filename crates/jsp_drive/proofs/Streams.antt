@@ -1,0 +1,278 @@
+-- A session asks by its whole stream, in whatever pieces it came.
+use Rattle.std.proofs.Common.{◌≡◌, ℕ, ◌+◌, ◌≤◌, Bool, true, false, List, [], ◌∷◌, ◌++◌, None, Vec, Global, eqb, refl, ap, sym, ◌∙◌, subst, arith, append_assoc, inl, inr}
+use Rattle.std.specs.Prelude.{map, filter, MatchBool, ◌⊎◌, if◌then◌else◌}
+use Rattle.std.proofs.lemmas.List.{append-nil, map-append}
+use Rattle.std.proofs.lemmas.List.Elements.{filter-append}
+use Rattle.std.proofs.lemmas.Bool.{eq-eqb, eqb-true}
+use Rattle.jsp_frame.specs.Stream.{SplitsInto, IsUnfinished}
+use Rattle.jsp_frame.proofs.Streams.{SplitsInto-nil, SplitsInto-append, SplitsInto-join}
+use Rattle.jsp_wire.specs.Reading.{Reading, request, bad_json, bad_request, reading}
+use Rattle.jsp_reply.specs.declared.refusal.Refusal.TheVariants.{TooLong}
+use Rattle.jsp_model.specs.declared.state.State.{State}
+use Rattle.jsp_model.specs.declared.step.Step.{Step}
+use Rattle.jsp_model.specs.declared.step.Step.TheVariants as step
+use Rattle.jsp_model.specs.declared.house.Input.TheVariants as input
+use Rattle.jsp_model.specs.Lookup.{empty, is_open}
+use Rattle.jsp_model.specs.Runs.{state_after}
+use Rattle.jsp_model.specs.House.{accepts}
+use Rattle.jsp_model.proofs.Joining.{state_after-append}
+use Rattle.jsp_model.proofs.Sessions.{Numbered, IsPast, Rises, rises_run, numbered_at_first}
+use Rattle.jsp_drive.specs.declared.acts.Act.{Act}
+use Rattle.jsp_drive.specs.declared.acts.Act.TheVariants as act
+use Rattle.jsp_drive.specs.declared.acts.Sent.{Sent}
+use Rattle.jsp_drive.specs.Heard.{heard, heard_as}
+use Rattle.jsp_drive.specs.Lines.{longest}
+use Rattle.jsp_drive.specs.Tie.{asked_in, AsksBy, Hears, HearsPiece, Asks, Tied}
+use Rattle.jsp_drive.specs.Streams.{brings, stream_of, is_request_of, requests_of, AsksByStream, AskByStreams}
+use Rattle.jsp_drive.proofs.Asking.{asked_in-append}
+
+-- ---- whose requests they are
+
+abbrev of : ℕ → List Step → List Step
+of s asked = filter (is_request_of s) asked
+
+requests_of-append : (s : ℕ) (xs ys : List Step) → requests_of s (xs ++ ys) ≡ requests_of s xs ++ requests_of s ys
+requests_of-append s xs ys = ap (of s) (asked_in-append xs ys) ∙ filter-append (is_request_of s) (asked_in xs) (asked_in ys)
+
+heard_of : (s t : ℕ) (r : Reading) → is_request_of s (heard_as t r) ≡ eqb t s
+heard_of s t (request r) = refl
+heard_of s t bad_json = refl
+heard_of s t (bad_request id) = refl
+
+mine : (s : ℕ) (ps : List (List ℕ)) → of s (map (heard s) ps) ≡ map (heard s) ps
+mine s [] = refl
+mine s (p ∷ ps) = rw (heard_of s s (reading p)) (rw (eq-eqb s s refl) (ap (λ w. heard s p ∷ w) (mine s ps)))
+
+others : (s t : ℕ) (ps : List (List ℕ)) → eqb t s ≡ false → of s (map (heard t) ps) ≡ []
+others s t [] apart = refl
+others s t (p ∷ ps) apart = rw (heard_of s t (reading p)) (rw apart (others s t ps apart))
+
+abbrev fault : ℕ → List Step
+fault s = step.Fault s None TooLong ∷ []
+
+my_fault : (s : ℕ) → of s (fault s) ≡ fault s
+my_fault s = rw (eq-eqb s s refl) refl
+
+their_fault : (s t : ℕ) → eqb t s ≡ false → of s (fault t) ≡ []
+their_fault s t apart = rw apart refl
+
+all_mine : (s : ℕ) (ps : List (List ℕ)) (rest : List ℕ) (asked : List Step) (stays : Bool) → AsksBy s ps rest asked stays → of s asked ≡ asked
+all_mine s ps rest asked stays h =
+    elim h [
+      | inl e ↦ ap (of s) e.0 ∙ mine s ps ∙ sym e.0
+      | inr e ↦ ap (of s) e.0 ∙ filter-append (is_request_of s) (map (heard s) ps) (fault s) ∙ rw (mine s ps, my_fault s) (sym e.0)
+    ]
+
+none_mine : (s t : ℕ) (ps : List (List ℕ)) (rest : List ℕ) (asked : List Step) (stays : Bool) → eqb t s ≡ false → AsksBy t ps rest asked stays → of s asked ≡ []
+none_mine s t ps rest asked stays apart h =
+    elim h [
+      | inl e ↦ ap (of s) e.0 ∙ others s t ps apart
+      | inr e ↦ ap (of s) e.0 ∙ filter-append (is_request_of s) (map (heard t) ps) (fault t) ∙ rw (others s t ps apart, their_fault s t apart) refl
+    ]
+
+maybe_none : (s : ℕ) (b : Bool) (x : Step) → is_request_of s x ≡ false → of s (if b then x ∷ [] else []) ≡ []
+maybe_none s true x h = rw h refl
+maybe_none s false x h = refl
+
+-- ---- what an act is to a session
+
+-- a piece of its bytes that is heard
+record Brings (s : ℕ) (a : Act) (st : State) (asked : List Step) (new : State) (before after : ℕ → List ℕ) : Type 0 where
+  bytes : List ℕ
+  brings_is : brings s st a ≡ bytes
+  live : is_open st s ≡ true
+  hears : HearsPiece s bytes asked new before after
+
+-- nothing that it asks by
+record Spares (s : ℕ) (a : Act) (st : State) (asked : List Step) (new : State) (before after : ℕ → List ℕ) : Type 0 where
+  brings_is : brings s st a ≡ []
+  nothing : of s asked ≡ []
+  stays : is_open new s ≡ true → after s ≡ before s
+  none : before s ≡ [] → after s ≡ []
+
+piece_turn : (b c : Bool) (s t : ℕ) (bytes : Vec ℕ Global) (st : State) (asked : List Step) (new : State) (before after : ℕ → List ℕ)
+    → eqb t s ≡ b → is_open st t ≡ c → MatchBool c (HearsPiece t bytes.items asked new before after) ((asked ≡ []) × ((u : ℕ) → after u ≡ before u))
+    → Brings s (act.Piece t bytes) st asked new before after ⊎ Spares s (act.Piece t bytes) st asked new before after
+piece_turn true true s t bytes st asked new before after same live h =
+    let is : t ≡ s = eqb-true t s same in
+    let mine : is_open st s ≡ true = ap (is_open st) (sym is) ∙ live in
+    inl (record {
+      bytes = bytes.items;
+      brings_is = rw (same, mine) refl;
+      live = mine;
+      hears = subst (λ (k : ℕ). HearsPiece k bytes.items asked new before after) is h;
+    })
+piece_turn true false s t bytes st asked new before after same closed h =
+    let is : t ≡ s = eqb-true t s same in
+    let mine : is_open st s ≡ false = ap (is_open st) (sym is) ∙ closed in
+    inr (record { brings_is = rw (same, mine) refl; nothing = ap (of s) h.0; stays = λ e. h.1 s; none = λ e. h.1 s ∙ e })
+piece_turn false true s t bytes st asked new before after apart live h =
+    let kept : after s ≡ before s = h.others s apart in
+    inr (record {
+      brings_is = rw apart refl;
+      nothing = none_mine s t h.hears.payloads h.hears.rest asked (is_open new t) apart h.hears.asks;
+      stays = λ e. kept;
+      none = λ e. kept ∙ e;
+    })
+piece_turn false false s t bytes st asked new before after apart closed h =
+    inr (record { brings_is = rw apart refl; nothing = ap (of s) h.0; stays = λ e. h.1 s; none = λ e. h.1 s ∙ e })
+
+shut_turn : (b : Bool) (s t : ℕ) (st : State) (asked : List Step) (new : State) (before after : ℕ → List ℕ)
+    → eqb t s ≡ b → Asks (act.Shut t) st asked new before after → Spares s (act.Shut t) st asked new before after
+shut_turn true s t st asked new before after same h =
+    let is : t ≡ s = eqb-true t s same in
+    let gone : after s ≡ [] = ap after (sym is) ∙ h.2 in
+    let closed : is_open new s ≡ false = ap (is_open new) (sym is) ∙ h.1 in
+    record { brings_is = refl; nothing = ap (of s) h.0 ∙ maybe_none s (is_open st t) (step.Shut t) refl; stays = λ e. absurd (cc (e, closed)); none = λ e. gone }
+shut_turn false s t st asked new before after apart h =
+    record { brings_is = refl; nothing = ap (of s) h.0 ∙ maybe_none s (is_open st t) (step.Shut t) refl; stays = λ e. h.3 s apart; none = λ e. h.3 s apart ∙ e }
+
+turn : (s : ℕ) (a : Act) (st : State) (asked : List Step) (new : State) (before after : ℕ → List ℕ) → Asks a st asked new before after
+    → Brings s a st asked new before after ⊎ Spares s a st asked new before after
+turn s (act.Open t) st asked new before after h =
+    inr (record { brings_is = refl; nothing = ap (of s) h.0 ∙ maybe_none s (accepts st (input.Open t)) (step.Open t) refl; stays = λ e. h.1 s; none = λ e. h.1 s ∙ e })
+turn s (act.Clock t) st asked new before after h =
+    inr (record { brings_is = refl; nothing = ap (of s) h.0; stays = λ e. h.1 s; none = λ e. h.1 s ∙ e })
+turn s (act.Shut t) st asked new before after h = inr (shut_turn (eqb t s) s t st asked new before after refl h)
+turn s (act.Piece t bytes) st asked new before after h = piece_turn (eqb t s) (is_open st t) s t bytes st asked new before after refl refl h
+
+-- ---- a session that is past
+
+record Over (s : ℕ) (st : State) (stream : List ℕ) (steps : List Step) : Type 0 where
+  no_stream : stream ≡ []
+  no_requests : requests_of s steps ≡ []
+  closed : is_open (state_after st steps) s ≡ false
+
+over_at : (s : ℕ) (a : Act) (st : State) (part : List Step) (before after : ℕ → List ℕ) → is_open st s ≡ false
+    → Brings s a st (asked_in part) (state_after st part) before after ⊎ Spares s a st (asked_in part) (state_after st part) before after
+    → (brings s st a ≡ []) × (requests_of s part ≡ [])
+over_at s a st part before after closed (inl b) = absurd (cc (b.live, closed))
+over_at s a st part before after closed (inr b) = (b.brings_is, b.nothing)
+
+over : (s : ℕ) (st : State) (before : ℕ → List ℕ) (n : ℕ) (acts : List Act) (steps : List Step) (sent : List Sent) (tied : Tied st before n acts steps sent)
+    → IsPast s st → Over s st (stream_of s st before n acts steps sent tied) steps
+over s st before n [] steps sent tied past = record { no_stream = refl; no_requests = ap (requests_of s) tied.0; closed = ap (λ w. is_open (state_after st w) s) tied.0 ∙ past.closed }
+over s st before n (a ∷ acts) steps sent tied past =
+    let now = state_after st tied.part in
+    let first = over_at s a st tied.part before tied.after past.closed (turn s a st (asked_in tied.part) now before tied.after tied.it.asks) in
+    let rest = over s now tied.after (n + 1) acts tied.more tied.later tied.rest ((rises_run st tied.part tied.it.run).past s past) in
+    record {
+      no_stream = rw (first.0, rest.no_stream) refl;
+      no_requests = ap (requests_of s) tied.steps_are ∙ requests_of-append s tied.part tied.more ∙ rw (first.1, rest.no_requests) refl;
+      closed = ap (λ w. is_open (state_after st w) s) tied.steps_are ∙ ap (λ (w : State). is_open w s) (state_after-append st tied.part tied.more) ∙ rest.closed;
+    }
+
+-- ---- a session that is open, or that isn't yet
+
+-- what is pending is less than a frame, and nothing where the session isn't open
+record Ready (s : ℕ) (st : State) (before : ℕ → List ℕ) : Type 0 where
+  unfinished : IsUnfinished longest (before s)
+  here : (is_open st s ≡ true) ⊎ (before s ≡ [])
+
+unfinished_none : IsUnfinished longest []
+unfinished_none = inl (omega arith)
+
+ready_none : (s : ℕ) (st : State) (before : ℕ → List ℕ) → before s ≡ [] → Ready s st before
+ready_none s st before none = record { unfinished = rw none unfinished_none; here = inr none }
+
+-- no byte more
+ends : (s : ℕ) (bytes : List ℕ) (stays : Bool) → (stays ≡ true → IsUnfinished longest bytes) → AsksByStream s (bytes ++ []) [] stays
+ends s bytes stays unfinished = record { payloads = []; rest = bytes; split = rw (append-nil bytes) (SplitsInto-nil longest bytes); asks = inl (refl, unfinished) }
+
+-- the frames of a piece, and then those of the later ones
+on : (s : ℕ) (first bytes later : List ℕ) (ps : List (List ℕ)) (rest : List ℕ) (asked more : List Step) (stays : Bool)
+    → SplitsInto longest (first ++ bytes) ps rest → asked ≡ map (heard s) ps → AsksByStream s (rest ++ later) more stays
+    → AsksByStream s (first ++ (bytes ++ later)) (asked ++ more) stays
+on s first bytes later ps rest asked more stays split is h =
+    let longer = SplitsInto-append longest (first ++ bytes) ps rest later split in
+    record {
+      payloads = ps ++ h.payloads;
+      rest = h.rest;
+      split = subst (λ w. SplitsInto longest w (ps ++ h.payloads) h.rest) (append_assoc first bytes later)
+          (SplitsInto-join longest ((first ++ bytes) ++ later) ps h.payloads (rest ++ later) h.rest longer h.split);
+      asks = elim h.asks [
+        | inl e ↦ inl (rw (is, e.0) (sym (map-append (heard s) ps h.payloads)), e.1)
+        | inr e ↦ inr (rw (is, e.0) (sym (append_assoc (map (heard s) ps) (map (heard s) h.payloads) (fault s)) ∙ ap (λ w. w ++ fault s) (sym (map-append (heard s) ps h.payloads))), e.1, e.2)
+      ];
+    }
+
+abbrev Claim : ℕ → List ℕ → List ℕ → List Step → State → Type 0
+Claim s pending' stream steps end' = AsksByStream s (pending' ++ stream) (requests_of s steps) (is_open end' s)
+
+-- the whole of a run from its part and the rest
+joined : (s : ℕ) (st : State) (first now later : List ℕ) (part more steps : List Step) → steps ≡ part ++ more
+    → AsksByStream s (first ++ (now ++ later)) (requests_of s part ++ requests_of s more) (is_open (state_after (state_after st part) more) s)
+    → Claim s first (now ++ later) steps (state_after st steps)
+joined s st first now later part more steps are h =
+    rw are (rw (requests_of-append s part more, state_after-append st part more) h)
+
+-- what is known of the rest of a run, from the state after a part
+record Rest (s : ℕ) (now : State) (pending' later : List ℕ) (more : List Step) : Type 0 where
+  ready : IsUnfinished longest pending' → (is_open now s ≡ true) ⊎ (pending' ≡ []) → AsksByStream s (pending' ++ later) (requests_of s more) (is_open (state_after now more) s)
+  over : IsPast s now → Over s now later more
+
+heard_at : (c : Bool) (s : ℕ) (st now : State) (first after bytes later : List ℕ) (asked more : List Step) → is_open now s ≡ c → Hears s (first ++ bytes) after asked (is_open now s)
+    → s ≤ now.last_session → Rest s now after later more
+    → AsksByStream s (first ++ (bytes ++ later)) (asked ++ requests_of s more) (is_open (state_after now more) s)
+heard_at true s st now first after bytes later asked more live h low rest =
+    let pending' : after ≡ h.rest = h.after_is ∙ rw live refl in
+    elim h.asks [
+      | inl e ↦
+          let unfinished : IsUnfinished longest after = rw pending' (e.1 live) in
+          let next = rest.ready unfinished (inl live) in
+          on s first bytes later h.payloads h.rest asked (requests_of s more) (is_open (state_after now more) s) h.split e.0 (rw pending' at next)
+      | inr e ↦ absurd (cc (live, e.2))
+    ]
+heard_at false s st now first after bytes later asked more closed h low rest =
+    let gone = rest.over (record { closed = closed; low = low }) in
+    let asks : AsksBy s h.payloads h.rest (asked ++ []) false = rw (append-nil asked) (rw closed at h.asks) in
+    rw (gone.no_stream, gone.no_requests, gone.closed) (record { payloads = h.payloads; rest = h.rest; split = rw (append-nil bytes) h.split; asks = asks })
+
+spared_at : (c : Bool) (s : ℕ) (st now : State) (first after later : List ℕ) (more : List Step) → is_open now s ≡ c → (is_open now s ≡ true → after ≡ first) → (first ≡ [] → after ≡ [])
+    → IsUnfinished longest first → (is_open st s ≡ true) ⊎ (first ≡ []) → (is_open st s ≡ true → s ≤ now.last_session) → Rest s now after later more
+    → AsksByStream s (first ++ later) (requests_of s more) (is_open (state_after now more) s)
+spared_at true s st now first after later more live stays none unfinished here low rest =
+    let same : after ≡ first = stays live in
+    let next = rest.ready (rw same unfinished) (inl live) in
+    rw same at next
+spared_at false s st now first after later more closed stays none unfinished (inl live) low rest =
+    let gone = rest.over (record { closed = closed; low = low live }) in
+    rw (gone.no_stream, gone.no_requests, gone.closed) (ends s first false (λ e. cc (e)))
+spared_at false s st now first after later more closed stays none unfinished (inr empty') low rest =
+    let next = rest.ready (rw (none empty') unfinished_none) (inr (none empty')) in
+    let same : after ≡ first = none empty' ∙ sym empty' in
+    rw same at next
+
+part_at : (s : ℕ) (a : Act) (st : State) (part more : List Step) (before after : ℕ → List ℕ) (later : List ℕ) → Numbered st → Rises st (state_after st part)
+    → IsUnfinished longest (before s) → (is_open st s ≡ true) ⊎ (before s ≡ [])
+    → Brings s a st (asked_in part) (state_after st part) before after ⊎ Spares s a st (asked_in part) (state_after st part) before after
+    → Rest s (state_after st part) (after s) later more
+    → AsksByStream s (before s ++ (brings s st a ++ later)) (requests_of s part ++ requests_of s more) (is_open (state_after (state_after st part) more) s)
+part_at s a st part more before after later n rises unfinished here (inl b) rest =
+    let now = state_after st part in
+    let h = b.hears.hears in
+    let asked : requests_of s part ≡ asked_in part = all_mine s h.payloads h.rest (asked_in part) (is_open now s) h.asks in
+    rw (b.brings_is, asked) (heard_at (is_open now s) s st now (before s) (after s) b.bytes later (asked_in part) more refl h (omega (arith, rises.last, n.within s b.live)) rest)
+part_at s a st part more before after later n rises unfinished here (inr b) rest =
+    let now = state_after st part in
+    rw (b.brings_is, b.nothing)
+    (spared_at (is_open now s) s st now (before s) (after s) later more refl b.stays b.none unfinished here (λ live. omega (arith, rises.last, n.within s live)) rest)
+
+streams : (s : ℕ) (st : State) (before : ℕ → List ℕ) (n : ℕ) (acts : List Act) (steps : List Step) (sent : List Sent) (tied : Tied st before n acts steps sent)
+    → Numbered st → IsUnfinished longest (before s) → (is_open st s ≡ true) ⊎ (before s ≡ [])
+    → AsksByStream s (before s ++ stream_of s st before n acts steps sent tied) (requests_of s steps) (is_open (state_after st steps) s)
+streams s st before n [] steps sent tied numbered unfinished here = rw tied.0 (ends s (before s) (is_open st s) (λ e. unfinished))
+streams s st before n (a ∷ acts) steps sent tied numbered unfinished here =
+    let now = state_after st tied.part in
+    let rises = rises_run st tied.part tied.it.run in
+    let later = stream_of s now tied.after (n + 1) acts tied.more tied.later tied.rest in
+    let rest : Rest s now (tied.after s) later tied.more = record {
+      ready = λ u h. streams s now tied.after (n + 1) acts tied.more tied.later tied.rest (rises.numbered numbered) u h;
+      over = λ past. over s now tied.after (n + 1) acts tied.more tied.later tied.rest past;
+    } in
+    joined s st (before s) (brings s st a) later tied.part tied.more steps tied.steps_are
+    (part_at s a st tied.part tied.more before tied.after later numbered rises unfinished here (turn s a st (asked_in tied.part) now before tied.after tied.it.asks) rest)
+
+-- However the steps are tied to the acts, each session asks by its whole stream.
+pub ask_by_streams : (spaces : List (List ℕ)) (acts : List Act) (steps : List Step) (sent : List Sent) → AskByStreams spaces acts steps sent
+ask_by_streams spaces acts steps sent = λ s tied. streams s (empty spaces) (λ t. []) 0 acts steps sent tied (numbered_at_first spaces) unfinished_none (inr refl)

@@ -1,0 +1,56 @@
+-- What the calls within an act do.
+use Rattle.std.specs.Prelude.{ℕ, ◌≡◌, true, List, [], ◌∷◌, ◌++◌, None, map, flat_map, if◌then◌else◌}
+use Rattle.std.specs.HashMap.{HashMap}
+use Rattle.jsp_frame.specs.Stream.{SplitsInto}
+use Rattle.jsp_frame.specs.Unframer.{Incoming}
+use Rattle.jsp_model.specs.declared.state.State.{State}
+use Rattle.jsp_model.specs.declared.state.Outbox.{Outbox}
+use Rattle.jsp_model.specs.declared.step.Step.{Step}
+use Rattle.jsp_model.specs.declared.house.Input.{Input}
+use Rattle.jsp_model.specs.Lookup.{is_open}
+use Rattle.jsp_model.specs.Due.{due}
+use Rattle.jsp_model.specs.Runs.{said_to}
+use Rattle.jsp_model.specs.House.{Makes, own_of, accepts, step_of}
+use Rattle.jsp_drive.specs.declared.acts.Act.{Act}
+use Rattle.jsp_drive.specs.declared.acts.Sent.{Sent}
+use Rattle.jsp_drive.specs.Lines.{longest, IsLine, AreLines, pending}
+use Rattle.jsp_drive.specs.Tie.{Asks, AsksBy, asked_in, frame_for}
+
+-- the input's own step is made, where it is accepted, and then nothing is due
+pub record ActsOn (old new : State) (log log' : List Step) (x : Input) : Type 0 where
+  pub steps : List Step
+  pub makes : Makes old new log log' steps
+  pub own : own_of steps ≡ (if accepts old x then step_of x ∷ [] else [])
+  pub nothing_due : due new ≡ None
+
+-- the frames of a line are acted
+pub record Serves (s : ℕ) (old new : State) (log log' : List Step) (line line' : Incoming) : Type 0 where
+  pub steps : List Step
+  pub makes : Makes old new log log' steps
+  pub payloads : List (List ℕ)
+  pub split : SplitsInto longest line.rest payloads line'.rest
+  pub asks : AsksBy s payloads line'.rest (own_of steps) (is_open new s)
+  pub nothing_due : due old ≡ None → due new ≡ None
+  pub goes_on : is_open new s ≡ true → IsLine line'
+
+module _ {S : Type 0} where
+  -- the steps of an act, before anything is handed out
+  pub record Performs (act : Act) (old new : State) (log log' : List Step) (lines lines' : HashMap ℕ Incoming S) : Type 0 where
+    pub steps : List Step
+    pub makes : Makes old new log log' steps
+    pub asks : Asks act old (own_of steps) new (pending lines) (pending lines')
+    pub nothing_due : due old ≡ None → due new ≡ None
+    pub are_lines : AreLines lines'
+
+-- the frames of all that lies in an outbox
+abbrev pub frames_of : ℕ → Outbox → List Sent
+frames_of n b = map (frame_for n b.session) b.answers
+
+-- all that waits is handed out, by session number, and sent
+pub record Sends (n : ℕ) (old new : State) (log log' : List Step) (sent sent' : List Sent) : Type 0 where
+  pub steps : List Step
+  pub makes : Makes old new log log' steps
+  pub nothing_asked : asked_in steps ≡ []
+  pub silent : (s : ℕ) → said_to s old steps ≡ []
+  pub new_is : new ≡ record old { outboxes = [] }
+  pub sent_is : sent' ≡ sent ++ flat_map (frames_of n) old.outboxes

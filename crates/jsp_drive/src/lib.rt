@@ -1,0 +1,23 @@
+//! Runs acts on any house: bytes of clients in, frames of answers out.
+//!
+//! An act opens or shuts a session, brings a piece of its bytes, or reads the clock. `drive` makes
+//! the house's steps for each act, and then sends what they say. Its contract (`specs/Tie.antt`):
+//! the steps are one legal run from the empty state, cut into a part for each act. A part was asked
+//! for by the act alone: its own step, or one request or fault for each frame that its bytes
+//! complete. At its end nothing is due, what it touched is quiet, and all that it said is sent, by
+//! session number. So each session asks by its whole stream, however that was cut into pieces
+//! (`specs/Streams.antt`), and is sent the frames of what that run says to it, in order, and all of
+//! them. All this holds for every house that keeps the contract of `House`.
+#![tactic(auto)]
+
+mod acts;
+mod hear;
+mod lines;
+mod perform;
+mod run;
+mod send;
+mod serve;
+
+pub use acts::{Act, Driven, Sent};
+pub use run::drive;
+pub use send::encode;

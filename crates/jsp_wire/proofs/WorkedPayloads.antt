@@ -1,0 +1,42 @@
+-- A few payloads, computed.
+use Rattle.std.proofs.Common.{◌≡◌, [], ◌∷◌, codes, pos, None, Some, refl}
+use Rattle.std.specs.Str.{is_utf8, chars}
+use Rattle.std.specs.Char.{encode_utf8}
+use Rattle.serde_json.proofs.OnLiterals.{serde_json_on_literals}
+use Rattle.jsp_types.specs.declared.value.Kind.TheVariants as kind
+use Rattle.jsp_types.specs.declared.value.Value.TheVariants as value
+use Rattle.jsp_wire.specs.declared.ask.Ask.TheVariants as ask
+use Rattle.jsp_wire.specs.Parts.{raw_of}
+use Rattle.jsp_wire.specs.Operations.{declare_of, write_of, take_of, ask_of}
+use Rattle.jsp_wire.specs.Reading.{request, bad_json, bad_request, request_of, reading}
+
+unknown_key : reading (codes "{\"id\":5,\"op\":\"declare\",\"class\":\"J\",\"fields\":{},\"x\":1}") ≡ bad_request (Some 5)
+unfolding serde_json_on_literals is_utf8 chars encode_utf8 reading request_of ask_of declare_of
+unknown_key = refl
+
+no_id : reading (codes "{\"id\":-1,\"op\":\"bye\"}") ≡ bad_request None
+unfolding serde_json_on_literals is_utf8 chars encode_utf8 reading request_of
+no_id = refl
+
+no_json : reading (codes "{\"id\":5") ≡ bad_json
+unfolding serde_json_on_literals is_utf8 chars encode_utf8 reading
+no_json = refl
+
+a_declaration : reading (codes "{\"id\":0, \"op\":\"declare\",\"class\":\"J\",\"fields\":{\"k\":\"int\",\"b\":\"float\"}} ")
+    ≡ request (record { id = 0; ask = ask.Declare (record { class = codes "J"; parent = None; fields = (codes "b", None) ∷ (codes "k", Some kind.Int) ∷ [] }) })
+unfolding serde_json_on_literals is_utf8 chars encode_utf8 reading request_of ask_of declare_of
+a_declaration = refl
+
+a_write : reading (codes "{\"id\":2,\"op\":\"write\",\"space\":\"a\",\"entry\":{\"class\":\"J\",\"fields\":{\"k\":null}},\"lease\":9}")
+    ≡ request (record { id = 2; ask = ask.Write (record { space = codes "a"; entry = record { class = codes "J"; fields = (codes "k", value.Null) ∷ [] }; lease = pos 9; txn = None }) })
+unfolding serde_json_on_literals is_utf8 chars encode_utf8 reading request_of ask_of write_of raw_of
+a_write = refl
+
+a_take : reading (codes "{\"id\":3,\"op\":\"take\",\"space\":\"a\",\"template\":{\"class\":\"J\",\"fields\":{\"k\":1}},\"timeout\":0,\"txn\":null}")
+    ≡ request (record { id = 3; ask = ask.Take (record { space = codes "a"; template = Some (record { class = codes "J"; fields = (codes "k", value.Int (pos 1)) ∷ [] }); timeout = pos 0; txn = None }) })
+unfolding serde_json_on_literals is_utf8 chars encode_utf8 reading request_of ask_of take_of raw_of
+a_take = refl
+
+waiting_is_not_built : reading (codes "{\"id\":3,\"op\":\"take\",\"space\":\"a\",\"template\":null,\"timeout\":1}") ≡ bad_request (Some 3)
+unfolding serde_json_on_literals is_utf8 chars encode_utf8 reading request_of ask_of take_of
+waiting_is_not_built = refl

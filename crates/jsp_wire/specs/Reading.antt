@@ -1,0 +1,58 @@
+-- What a payload is: one request, or one fault.
+use Rattle.std.specs.Prelude.{◌≡◌, ℕ, List, if◌then◌else◌, Option, Some, None, Result, Ok, Err, codes}
+use Rattle.std.specs.Str.{is_utf8}
+use Rattle.serde_json.specs.Data.{Data}
+use Rattle.serde_json.specs.Read.{read}
+use Rattle.serde_json.specs.View.{view}
+use Rattle.serde_json.specs.declared.value.Value.{Value}
+use Rattle.jsp_wire.specs.declared.ask.Request.{Request}
+use Rattle.jsp_wire.specs.declared.fault.Flaw.{Flaw}
+use Rattle.jsp_wire.specs.declared.fault.Flaw.TheVariants.{Refused, Memory}
+use Rattle.jsp_wire.specs.declared.fault.WireFault.{WireFault}
+use Rattle.jsp_wire.specs.declared.fault.WireFault.TheVariants as fault
+use Rattle.jsp_wire.specs.Limits.{within_limits}
+use Rattle.jsp_wire.specs.Parts.{◌>>=◌, text_at, id_at}
+use Rattle.jsp_wire.specs.Operations.{ask_of}
+
+pub data Reading : Type 0 where
+  request : Request → Reading
+  -- no JSON, and so no id
+  bad_json : Reading
+  -- JSON that is no request, with its id where it has one
+  bad_request : Option ℕ → Reading
+
+-- the JSON that a payload is
+abbrev pub json_of : List ℕ → Option Data
+json_of payload = if is_utf8 payload then read payload else None
+
+-- what was parsed is the JSON that the payload is, unless memory ran out
+abbrev pub Parses : Result Value Flaw → Option Data → Type 0
+Parses (Ok v) read = read ≡ Some (view v)
+Parses (Err Refused) read = read ≡ None
+Parses (Err Memory) read = Unit {0}
+
+unfoldable pub request_of : Data → Option Request
+request_of d = do
+  id ← id_at d
+  name ← text_at (codes "op") d
+  ask ← ask_of name d
+  within_limits (record { id = id; ask = ask })
+
+abbrev pub request_or_fault : Option Request → Option ℕ → Reading
+request_or_fault (Some r) id = request r
+request_or_fault None id = bad_request id
+
+abbrev pub reading_of : Option Data → Reading
+reading_of None = bad_json
+reading_of (Some d) = request_or_fault (request_of d) (id_at d)
+
+-- what a payload is
+unfoldable pub reading : List ℕ → Reading
+reading payload = reading_of (json_of payload)
+
+-- what was returned is what the payload is, unless memory ran out
+abbrev pub Answers : Result Request WireFault → Reading → Type 0
+Answers (Ok r) read = read ≡ request r
+Answers (Err fault.BadJson) read = read ≡ bad_json
+Answers (Err (fault.BadRequest id)) read = read ≡ bad_request id
+Answers (Err fault.NoMemory) read = Unit {0}

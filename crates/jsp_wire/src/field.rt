@@ -1,0 +1,236 @@
+//! The parts of a request's object.
+ghost use Rattle.std.specs.Prelude.{◌≡◌, map, Some};
+ghost use Rattle.serde_json.specs.View.{view, members_view};
+ghost use Rattle.jsp_wire.specs.Parts.{Gives, is_known, only, only_members, or_null, number_of, text_at, number_at, optional_text_at, optional_number_at, id_at, each_member, members_at, value_of, kind_named, kind_of, kinds_at, raw_of, entry_at, template_at};
+ghost use Rattle.serde_json.specs.Find.{as_str};
+
+use crate::fault::Flaw;
+use jsp_types::{Items, Kind, Raw, Text, Value};
+use serde_json::{Map, Value as Json};
+use std::alloc::Global;
+
+/// Whether the value is an object with no key beside these.
+pub(crate) fn only(json: &Json, names: &[&str]) -> Result<(), Flaw>
+    ensures { Gives result (only (map (λ n. n.now) names.now) (view json.now)) }
+{
+    match json.as_object() {
+        None => Err(Flaw::Refused),
+        Some(members) => only_members(members, names),
+    }
+}
+
+fn only_members(members: &Map<String, Json>, names: &[&str]) -> Result<(), Flaw>
+    ensures { Gives result
+        (only_members (map (λ n. n.now) names.now) (members_view members.now.entries)) }
+{
+    for (name, _) in members.iter() {
+        if !is_known(name, names) {
+            return Err(Flaw::Refused);
+        }
+    }
+    Ok(())
+}
+
+fn is_known(name: &str, names: &[&str]) -> bool
+    ensures { result ≡ is_known (map (λ n. n.now) names.now) name.now }
+{
+    for known in names {
+        if *known == name {
+            return true;
+        }
+    }
+    false
+}
+
+fn text(alloc: Global, text: &str) -> Result<Text, Flaw>
+    ensures { Gives result (Some text.now) }
+{
+    Ok(Text::from_string(String::from_str(alloc, text)?))
+}
+
+/// The text at a key.
+pub(crate) fn text_at(alloc: Global, json: &Json, name: &str) -> Result<Text, Flaw>
+    ensures { Gives result (text_at name.now (view json.now)) }
+{
+    let found = json.get(name).and_then(Json::as_str).ok_or(Flaw::Refused)?;
+    text(alloc, found)
+}
+
+/// The number at a key.
+pub(crate) fn number_at(json: &Json, name: &str) -> Result<i64, Flaw>
+    ensures { Gives result (number_at name.now (view json.now)) }
+{
+    json.get(name).and_then(Json::as_i64).ok_or(Flaw::Refused)
+}
+
+/// The request's id: a number from 0 to 9,223,372,036,854,775,807.
+pub(crate) fn id_at(json: &Json) -> Option<u64>
+    ensures { result ≡ id_at (view json.now) }
+{
+    let id = json.get("id").and_then(Json::as_i64)?;
+    if id < 0 { None } else { Some(id as u64) }
+}
+
+fn text_or_null(alloc: Global, json: &Json) -> Result<Option<Text>, Flaw>
+    ensures { Gives result (or_null as_str (view json.now)) }
+{
+    if json.is_null() {
+        return Ok(None);
+    }
+    let found = json.as_str().ok_or(Flaw::Refused)?;
+    Ok(Some(text(alloc, found)?))
+}
+
+fn number_or_null(json: &Json) -> Result<Option<i64>, Flaw>
+    ensures { Gives result (or_null number_of (view json.now)) }
+{
+    if json.is_null() {
+        return Ok(None);
+    }
+    let found = json.as_i64().ok_or(Flaw::Refused)?;
+    Ok(Some(found))
+}
+
+/// The text at a key that may be absent or null.
+pub(crate) fn optional_text_at(alloc: Global, json: &Json, name: &str) -> Result<Option<Text>, Flaw>
+    ensures { Gives result (optional_text_at name.now (view json.now)) }
+{
+    match json.get(name) {
+        None => Ok(None),
+        Some(value) => text_or_null(alloc, value),
+    }
+}
+
+/// The number at a key that may be absent or null.
+pub(crate) fn optional_number_at(json: &Json, name: &str) -> Result<Option<i64>, Flaw>
+    ensures { Gives result (optional_number_at name.now (view json.now)) }
+{
+    match json.get(name) {
+        None => Ok(None),
+        Some(value) => number_or_null(value),
+    }
+}
+
+fn value(alloc: Global, json: &Json) -> Result<Value, Flaw>
+    ensures { Gives result (value_of (view json.now)) }
+{
+    match json {
+        Json::Null => Ok(Value::Null),
+        Json::Bool(b) => Ok(Value::Bool(*b)),
+        Json::Number(n) => match n.as_i64() {
+            None => Err(Flaw::Refused),
+            Some(n) => Ok(Value::Int(n)),
+        },
+        Json::String(found) => Ok(Value::Text(text(alloc, found)?)),
+        Json::Array(_) => Err(Flaw::Refused),
+        Json::Object(_) => Err(Flaw::Refused),
+    }
+}
+
+/// The values of the members, in byte order of their keys, since serde_json's map keeps its keys
+/// sorted.
+fn values(alloc: Global, members: &Map<String, Json>) -> Result<Items<(Text, Value)>, Flaw>
+    ensures { Gives result (each_member value_of (members_view members.now.entries)) }
+{
+    let mut found = Items::new(alloc);
+    for (name, json) in members.iter() {
+        let value = value(alloc, json)?;
+        found.push((text(alloc, name)?, value))?;
+    }
+    Ok(found)
+}
+
+fn values_at(alloc: Global, json: &Json, name: &str) -> Result<Items<(Text, Value)>, Flaw>
+    ensures { Gives result (members_at value_of name.now (view json.now)) }
+{
+    match json.get(name).and_then(Json::as_object) {
+        None => Err(Flaw::Refused),
+        Some(members) => values(alloc, members),
+    }
+}
+
+fn kind_named(name: &str) -> Option<Kind>
+    ensures { result ≡ kind_named name.now }
+{
+    match name {
+        "int" => Some(Kind::Int),
+        "text" => Some(Kind::Text),
+        "bool" => Some(Kind::Bool),
+        _ => None,
+    }
+}
+
+fn kind(json: &Json) -> Result<Option<Kind>, Flaw>
+    ensures { Gives result (kind_of (view json.now)) }
+{
+    match json.as_str() {
+        None => Err(Flaw::Refused),
+        Some(name) => Ok(kind_named(name)),
+    }
+}
+
+/// The kinds of the members, in byte order of their keys.
+fn kinds(alloc: Global, members: &Map<String, Json>) -> Result<Items<(Text, Option<Kind>)>, Flaw>
+    ensures { Gives result (each_member kind_of (members_view members.now.entries)) }
+{
+    let mut found = Items::new(alloc);
+    for (name, json) in members.iter() {
+        let kind = kind(json)?;
+        found.push((text(alloc, name)?, kind))?;
+    }
+    Ok(found)
+}
+
+/// The names of kinds at a key, each under its field's name.
+pub(crate) fn kinds_at(
+    alloc: Global,
+    json: &Json,
+    name: &str,
+) -> Result<Items<(Text, Option<Kind>)>, Flaw>
+    ensures { Gives result (kinds_at name.now (view json.now)) }
+{
+    match json.get(name).and_then(Json::as_object) {
+        None => Err(Flaw::Refused),
+        Some(members) => kinds(alloc, members),
+    }
+}
+
+#[tactic(auto, unfolding(crate::specs::Parts::raw_of))]
+fn raw(alloc: Global, json: &Json) -> Result<Raw, Flaw>
+    ensures { Gives result (raw_of (view json.now)) }
+{
+    only(json, &["class", "fields"])?;
+    let class = text_at(alloc, json, "class")?;
+    let fields = values_at(alloc, json, "fields")?;
+    Ok(Raw { class, fields })
+}
+
+/// The entry at a key.
+pub(crate) fn entry_at(alloc: Global, json: &Json, name: &str) -> Result<Raw, Flaw>
+    ensures { Gives result (entry_at name.now (view json.now)) }
+{
+    match json.get(name) {
+        None => Err(Flaw::Refused),
+        Some(value) => raw(alloc, value),
+    }
+}
+
+fn template(alloc: Global, json: &Json) -> Result<Option<Raw>, Flaw>
+    ensures { Gives result (or_null raw_of (view json.now)) }
+{
+    if json.is_null() {
+        return Ok(None);
+    }
+    let like = raw(alloc, json)?;
+    Ok(Some(like))
+}
+
+/// The template at a key: null, or as an entry.
+pub(crate) fn template_at(alloc: Global, json: &Json, name: &str) -> Result<Option<Raw>, Flaw>
+    ensures { Gives result (template_at name.now (view json.now)) }
+{
+    match json.get(name) {
+        None => Err(Flaw::Refused),
+        Some(value) => template(alloc, value),
+    }
+}

@@ -1,0 +1,132 @@
+//! From a payload to a request.
+ghost use Rattle.std.specs.Prelude.{Some};
+ghost use Rattle.serde_json.specs.View.{view};
+ghost use Rattle.jsp_wire.specs.Parts.{Gives};
+ghost use Rattle.jsp_wire.specs.Operations.{declare_of, write_of, take_of, ask_of};
+ghost use Rattle.jsp_wire.specs.Reading.{Answers, Parses, json_of, request_of, reading_of, reading};
+
+use crate::fault::{Flaw, WireFault};
+use crate::field::{
+    entry_at, id_at, kinds_at, number_at, only, optional_number_at, optional_text_at, template_at,
+    text_at,
+};
+use crate::{Ask, Asked, Declare, Request, Search, Write};
+use serde_json::Value as Json;
+use std::alloc::Global;
+
+#[tactic(auto, unfolding(crate::specs::Operations::declare_of))]
+fn declare(alloc: Global, json: &Json) -> Result<Ask, Flaw>
+    ensures { Gives result (declare_of (view json.now)) }
+{
+    only(json, &["id", "op", "class", "parent", "fields"])?;
+    let class = text_at(alloc, json, "class")?;
+    let parent = optional_text_at(alloc, json, "parent")?;
+    let fields = kinds_at(alloc, json, "fields")?;
+    Ok(Ask::Declare(Declare {
+        class,
+        parent,
+        fields,
+    }))
+}
+
+#[tactic(auto, unfolding(crate::specs::Operations::write_of))]
+fn write(alloc: Global, json: &Json) -> Result<Ask, Flaw>
+    ensures { Gives result (write_of (view json.now)) }
+{
+    only(json, &["id", "op", "space", "entry", "lease", "txn"])?;
+    let space = text_at(alloc, json, "space")?;
+    let entry = entry_at(alloc, json, "entry")?;
+    let lease = number_at(json, "lease")?;
+    let txn = optional_number_at(json, "txn")?;
+    Ok(Ask::Write(Write {
+        space,
+        entry,
+        lease,
+        txn,
+    }))
+}
+
+#[tactic(auto, unfolding(crate::specs::Operations::take_of))]
+fn take(alloc: Global, json: &Json) -> Result<Ask, Flaw>
+    ensures { Gives result (take_of (view json.now)) }
+{
+    only(json, &["id", "op", "space", "template", "timeout", "txn"])?;
+    let space = text_at(alloc, json, "space")?;
+    let template = template_at(alloc, json, "template")?;
+    let timeout = number_at(json, "timeout")?;
+    let txn = optional_number_at(json, "txn")?;
+    Ok(Ask::Take(Search {
+        space,
+        template,
+        timeout,
+        txn,
+    }))
+}
+
+#[tactic(auto, unfolding(crate::specs::Operations::ask_of))]
+fn ask(alloc: Global, name: &str, json: &Json) -> Result<Ask, Flaw>
+    ensures { Gives result (ask_of name.now (view json.now)) }
+{
+    match name {
+        "declare" => declare(alloc, json),
+        "write" => write(alloc, json),
+        "take" => take(alloc, json),
+        _ => Err(Flaw::Refused),
+    }
+}
+
+#[tactic(auto, unfolding(crate::specs::Reading::request_of))]
+fn request(alloc: Global, json: &Json) -> Result<Asked, Flaw>
+    ensures { Gives result (request_of (view json.now)) }
+{
+    let Some(id) = id_at(json) else {
+        return Err(Flaw::Refused);
+    };
+    let name = text_at(alloc, json, "op")?;
+    let ask = ask(alloc, name.as_str(), json)?;
+    match Asked::checked(Request { id, ask }) {
+        None => Err(Flaw::Refused),
+        Some(asked) => Ok(asked),
+    }
+}
+
+fn parse(alloc: Global, payload: &[u8]) -> Result<Json, Flaw>
+    ensures { Parses result (json_of payload.now) }
+{
+    match Json::from_slice(alloc, payload) {
+        Ok(json) => Ok(json),
+        Err(e) => {
+            if e.is_memory() {
+                return Err(Flaw::Memory);
+            }
+            Err(Flaw::Refused)
+        }
+    }
+}
+
+fn request_or_fault(alloc: Global, json: &Json) -> Result<Asked, WireFault>
+    ensures { Answers result (reading_of (Some (view json.now))) }
+{
+    match request(alloc, json) {
+        Ok(asked) => Ok(asked),
+        Err(Flaw::Memory) => Err(WireFault::NoMemory),
+        Err(Flaw::Refused) => Err(WireFault::BadRequest { id: id_at(json) }),
+    }
+}
+
+/// The request that a payload is, or its one fault.
+///
+/// A payload is JSON (RFC 8259) as serde_json reads it, nested at most 127 deep. A request is an
+/// object with `id`, `op` and the keys of its operation and no other; `txn` and `parent` may be
+/// absent or null. Its limits are those of [`Asked`]. The operations, their keys and these limits
+/// are this profile's own.
+#[tactic(auto, unfolding(crate::specs::Reading::reading))]
+pub fn read_ask(alloc: Global, payload: &[u8]) -> Result<Asked, WireFault>
+    ensures { Answers result (reading payload.now) }
+{
+    match parse(alloc, payload) {
+        Ok(json) => request_or_fault(alloc, &json),
+        Err(Flaw::Memory) => Err(WireFault::NoMemory),
+        Err(Flaw::Refused) => Err(WireFault::BadJson),
+    }
+}
