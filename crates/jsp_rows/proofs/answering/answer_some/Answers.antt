@@ -1,0 +1,8 @@
+use Rattle.std.proofs.Common.{◌≡◌, sym, ◌∙◌}
+use Rattle.jsp_rows.proofs.HandingOut.{makes_hand_out}
+use Rattle.jsp_rows.proofs.answering.answer_some.Goals as goal
+
+pub returns-clause-steps : goal.returns-clause-steps
+returns-clause-steps c =
+    let log = rw c.in_ok-reserve.ensures.items at c.enter.ensures in
+    makes_hand_out c.args.image.now c.hand_out.new.image c.args.log.now.items c.enter.new.log.items c.args.session c.args.count c.requires.some c.requires.there c.in_ok-answers.ensures.ok log
