@@ -8,6 +8,9 @@ use Rattle.jsp_model.specs.declared.step.Step.{Step}
 use Rattle.jsp_model.specs.Answers.{Saying, said}
 use Rattle.jsp_model.specs.Steps.{is_legal, next}
 use Rattle.jsp_model.specs.Runs.{is_run, state_after, said_in, first_illegal}
+use Rattle.jsp_audit.specs.declared.replaying.ReplayFault.{ReplayFault}
+use Rattle.jsp_audit.specs.declared.replaying.ReplayFault.TheVariants.{Illegal, NoMemory}
+use Rattle.jsp_audit.specs.Replay.{FailsAt, StopsAt}
 
 state_after-append : (st : State) (xs ys : List Step) → state_after st (xs ++ ys) ≡ state_after (state_after st xs) ys
 state_after-append st [] ys = refl
@@ -57,6 +60,11 @@ first_of st (x ∷ steps) (suc i) d lt run illegal =
 pub replaying_stops : (base state : State) (steps : List Step) (i : ℕ) (x : Step) (told : List Saying) → i < length steps → x ≡ get_or steps i x → Replaying base (take i steps) state told → is_legal state x ≡ false → first_illegal base steps ≡ Some i
 replaying_stops base state steps i x told lt is h illegal =
     first_of base steps i x lt h.run (ap (λ (s : Step). is_legal (state_after base (take i steps)) s) (sym is) ∙ (ap (λ (s : State). is_legal s x) (sym h.state_is) ∙ illegal))
+
+-- and so the fault of that step is the fault of all the steps
+pub replaying_fails : (base state : State) (steps : List Step) (i : ℕ) (x : Step) (told : List Saying) (e : ReplayFault) → i < length steps → x ≡ get_or steps i x → Replaying base (take i steps) state told → StopsAt e i (is_legal state x) → FailsAt e (first_illegal base steps)
+replaying_fails base state steps i x told (Illegal n) lt is h stops = replaying_stops base state steps i x told lt is h stops.1 ∙ ap Some (sym stops.0)
+replaying_fails base state steps i x told NoMemory lt is h stops = tt
 
 pub replaying_all : (base state : State) (steps : List Step) (i : ℕ) (told : List Saying) → length steps ≤ i → Replaying base (take i steps) state told → Replaying base steps state told
 replaying_all base state steps i told le h = rw (take_all i steps le) at h

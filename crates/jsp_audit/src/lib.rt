@@ -24,6 +24,8 @@ mod replaying;
 mod requests;
 mod rows;
 mod sessions;
+#[cfg(test)]
+mod tests;
 
 pub use applying::{apply, hand_out, said, shut};
 pub use emptiness::empty_image;

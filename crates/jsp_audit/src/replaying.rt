@@ -1,8 +1,10 @@
 //! Running a list of steps.
-ghost use Rattle.std.specs.Prelude.{◌≡◌, ◌++◌, IfOk, IfErr, OnOk, option_to_list};
+ghost use Rattle.std.specs.Prelude.{◌≡◌, ◌++◌, true, IsTrue, IfOk, IfErr, OnOk, option_to_list};
 ghost use Rattle.jsp_model.specs.Lookup.{empty};
+ghost use Rattle.jsp_model.specs.Answers.{said as said_by};
+ghost use Rattle.jsp_model.specs.Steps.{is_legal as legal, next};
 ghost use Rattle.jsp_model.specs.Runs.{IsRun, state_after, said_in, first_illegal};
-ghost use Rattle.jsp_audit.specs.Replay.{FailsAt};
+ghost use Rattle.jsp_audit.specs.Replay.{FailsAt, StopsAt};
 
 use crate::applying::{apply, said};
 use crate::emptiness::empty_image;
@@ -66,14 +68,38 @@ pub fn replay_from(alloc: Global, base: &Image, steps: &[Step]) -> Result<Replay
     let mut image = base.copy(alloc)?;
     let mut told = Vec::new(alloc);
     for (place, step) in steps.iter().enumerate() {
-        if !is_legal(alloc, &image, step)? {
-            return Err(ReplayFault::Illegal(place));
-        }
-        let saying = said(alloc, &image, step)?;
-        add(&mut told, saying)?;
-        apply(alloc, &mut image, step)?;
+        check_step(alloc, &image, step, place)?;
+        make_step(alloc, &mut image, &mut told, step)?;
     }
     Ok(Replayed { image, said: told })
+}
+
+/// Fails with the step's place where it isn't legal.
+fn check_step(alloc: Global, image: &Image, step: &Step, place: usize) -> Result<(), ReplayFault>
+    ensures ok { OnOk result (legal image.now step.now ≡ true) }
+    ensures err { IfErr result (λ e. StopsAt e place (legal image.now step.now)) }
+{
+    if is_legal(alloc, image, step)? {
+        Ok(())
+    } else {
+        Err(ReplayFault::Illegal(place))
+    }
+}
+
+/// Makes a legal step, and adds what it says.
+fn make_step(
+    alloc: Global,
+    image: &mut Image,
+    told: &mut Vec<(u64, Said)>,
+    step: &Step,
+) -> Result<(), NoMemory>
+    requires { IsTrue (legal image.old step.now) }
+    ensures made { OnOk result (image.new ≡ next image.old step.now) }
+    ensures told { OnOk result (told.new.items ≡ told.old.items ++ said_by image.old step.now) }
+{
+    let saying = said(alloc, image, step)?;
+    add(told, saying)?;
+    apply(alloc, image, step)
 }
 
 /// Adds what a step said.

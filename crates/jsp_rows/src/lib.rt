@@ -13,3 +13,6 @@ mod making;
 mod rows_house;
 
 pub use rows_house::RowsHouse;
+
+#[cfg(test)]
+mod tests;

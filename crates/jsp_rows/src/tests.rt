@@ -1,0 +1,199 @@
+use crate::RowsHouse;
+use jsp_model::{Config, House, Input, Step, Stopped};
+use jsp_reply::{Said, text};
+use jsp_types::{Items, Text};
+use jsp_wire::{Asked, read_ask};
+use std::test::Fail;
+
+fn house(rt: &HostRuntime) -> Result<RowsHouse, Fail> {
+    match config(rt)? {
+        None => Err(Fail::new("no config")),
+        Some(config) => Ok(RowsHouse::new(rt.alloc(), &config)?),
+    }
+}
+
+fn config(rt: &HostRuntime) -> Result<Option<Config>, Fail> {
+    let mut names = Items::new(rt.alloc());
+    names.push(Text::from_str(rt.alloc(), "a")?)?;
+    Ok(Config::new(names))
+}
+
+fn done(act: Result<(), Stopped>) -> Result<(), Fail> {
+    match act {
+        Ok(()) => Ok(()),
+        Err(_) => Err(Fail::new("an act was stopped")),
+    }
+}
+
+fn opens(house: &mut RowsHouse, session: u64, log: &mut Vec<Step>) -> Result<(), Fail> {
+    done(house.act(Input::Open { session }, log))
+}
+
+fn clock(house: &mut RowsHouse, time: u64, log: &mut Vec<Step>) -> Result<(), Fail> {
+    done(house.act(Input::Clock { time }, log))
+}
+
+fn request(rt: &HostRuntime, payload: &str) -> Result<Asked, Fail> {
+    match read_ask(rt.alloc(), payload.as_bytes()) {
+        Ok(asked) => Ok(asked),
+        Err(_) => Err(Fail::new("no request")),
+    }
+}
+
+fn sends(
+    rt: &HostRuntime,
+    house: &mut RowsHouse,
+    session: u64,
+    payload: &str,
+    log: &mut Vec<Step>,
+) -> Result<(), Fail> {
+    let asked = request(rt, payload)?;
+    done(house.act(Input::Ask { session, asked }, log))
+}
+
+// The answers that wait for the session, at most so many, a line for each.
+fn answers(
+    rt: &HostRuntime,
+    house: &mut RowsHouse,
+    session: u64,
+    most: u64,
+    log: &mut Vec<Step>,
+) -> Result<Vec<u8>, Fail> {
+    match house.hand_out(session, most, log) {
+        Ok(answers) => lines(rt, answers.as_slice()),
+        Err(_) => Err(Fail::new("handing out stopped")),
+    }
+}
+
+fn lines(rt: &HostRuntime, answers: &[Said]) -> Result<Vec<u8>, Fail> {
+    let mut lines = Vec::new(rt.alloc());
+    for said in answers {
+        lines.extend_from_slice(text(rt.alloc(), said)?.as_slice())?;
+        lines.push(b'\n')?;
+    }
+    Ok(lines)
+}
+
+const DECLARE: &str = r#"{"id":1,"op":"declare","class":"Job","fields":{"k":"int"}}"#;
+
+const WRITE_7: &str =
+    r#"{"id":2,"op":"write","space":"a","entry":{"class":"Job","fields":{"k":7}},"lease":1000}"#;
+
+const WRITE_5: &str =
+    r#"{"id":3,"op":"write","space":"a","entry":{"class":"Job","fields":{"k":5}},"lease":1000}"#;
+
+const TAKE: &str = r#"{"id":4,"op":"take","space":"a","template":null,"timeout":0}"#;
+
+// Session 1 is opened and sends these payloads, each when the clock reads its time.
+fn sends_all(
+    rt: &HostRuntime,
+    house: &mut RowsHouse,
+    payloads: &[(u64, &str)],
+    log: &mut Vec<Step>,
+) -> Result<(), Fail> {
+    opens(house, 1, log)?;
+    for (time, payload) in payloads {
+        clock(house, *time, log)?;
+        sends(rt, house, 1, payload, log)?;
+    }
+    Ok(())
+}
+
+// What a new house answers to these payloads of session 1.
+fn answers_to(rt: &HostRuntime, payloads: &[(u64, &str)]) -> Result<Vec<u8>, Fail> {
+    let mut house = house(rt)?;
+    let mut log = Vec::new(rt.alloc());
+    sends_all(rt, &mut house, payloads, &mut log)?;
+    answers(rt, &mut house, 1, 9, &mut log)
+}
+
+#[test]
+fn of_two_entries_the_one_written_first_is_taken(rt: HostRuntime) -> Result<(), Fail> {
+    let sent = [(0, DECLARE), (0, WRITE_7), (0, WRITE_5), (999, TAKE)];
+    let found = answers_to(&rt, &sent)?;
+    let wanted = concat!(
+        "{\"id\":1,\"ok\":null}\n",
+        "{\"id\":2,\"ok\":{\"lease\":1,\"ms\":1000}}\n",
+        "{\"id\":3,\"ok\":{\"lease\":2,\"ms\":1000}}\n",
+        "{\"id\":4,\"ok\":{\"class\":\"Job\",\"fields\":{\"k\":7}}}\n",
+    );
+    assert_eq!(rt; found.as_slice(), wanted.as_bytes());
+    Ok(())
+}
+
+#[test]
+fn an_entry_whose_lease_has_ended_is_not_taken(rt: HostRuntime) -> Result<(), Fail> {
+    let sent = [
+        (0, DECLARE),
+        (0, WRITE_7),
+        (600, WRITE_5),
+        (1000, TAKE),
+        (1600, TAKE),
+    ];
+    let found = answers_to(&rt, &sent)?;
+    let wanted = concat!(
+        "{\"id\":1,\"ok\":null}\n",
+        "{\"id\":2,\"ok\":{\"lease\":1,\"ms\":1000}}\n",
+        "{\"id\":3,\"ok\":{\"lease\":2,\"ms\":1000}}\n",
+        "{\"id\":4,\"ok\":{\"class\":\"Job\",\"fields\":{\"k\":5}}}\n",
+        "{\"id\":4,\"ok\":null}\n",
+    );
+    assert_eq!(rt; found.as_slice(), wanted.as_bytes());
+    Ok(())
+}
+
+// The first session that has answers: before any request, after one of session 2, and after one of
+// session 1 too.
+fn first_of_two(rt: &HostRuntime, house: &mut RowsHouse) -> Result<[Option<u64>; 3], Fail> {
+    let mut log = Vec::new(rt.alloc());
+    opens(house, 1, &mut log)?;
+    opens(house, 2, &mut log)?;
+    let before = house.first_waiting();
+    sends(rt, house, 2, TAKE, &mut log)?;
+    let between = house.first_waiting();
+    sends(rt, house, 1, TAKE, &mut log)?;
+    Ok([before, between, house.first_waiting()])
+}
+
+#[test]
+fn the_least_session_with_answers_comes_first(rt: HostRuntime) -> Result<(), Fail> {
+    let mut house = house(&rt)?;
+    let found = first_of_two(&rt, &mut house)?;
+    assert_eq!(rt; found, [None, Some(2), Some(1)]);
+    Ok(())
+}
+
+// Which of the sessions 1 and 2 are open once both were opened and 1 was shut.
+fn open_of_two(rt: &HostRuntime, house: &mut RowsHouse) -> Result<(bool, bool), Fail> {
+    let mut log = Vec::new(rt.alloc());
+    opens(house, 1, &mut log)?;
+    opens(house, 2, &mut log)?;
+    log.reserve(1)?;
+    house.shut(1, &mut log);
+    Ok((house.is_open(1), house.is_open(2)))
+}
+
+#[test]
+fn a_session_that_was_shut_is_not_open(rt: HostRuntime) -> Result<(), Fail> {
+    let mut house = house(&rt)?;
+    let found = open_of_two(&rt, &mut house)?;
+    assert_eq!(rt; found, (false, true));
+    Ok(())
+}
+
+// The last session and the time in the image of a house, once 3 was opened and the clock read 7.
+fn numbers_of_image(rt: &HostRuntime, house: &mut RowsHouse) -> Result<(u64, u64), Fail> {
+    let mut log = Vec::new(rt.alloc());
+    opens(house, 3, &mut log)?;
+    clock(house, 7, &mut log)?;
+    let image = house.image()?;
+    Ok((image.state().last_session, image.state().time))
+}
+
+#[test]
+fn the_image_has_the_session_and_the_time(rt: HostRuntime) -> Result<(), Fail> {
+    let mut house = house(&rt)?;
+    let found = numbers_of_image(&rt, &mut house)?;
+    assert_eq!(rt; found, (3, 7));
+    Ok(())
+}
