@@ -1,0 +1,109 @@
+//! One line of a script.
+ghost use Rattle.std.specs.Prelude.{ℕ, List, ◌≡◌, ◌<◌, ◌^◌, IfOk, IfSome, IfNone, MatchOption, IsTrue, IsFalse, length};
+ghost use Rattle.std.specs.List.{list_any, position};
+ghost use Rattle.jsp_drive.specs.declared.acts.Act.{Act as AnAct};
+ghost use Rattle.jsp_serve.specs.Script.{first_part, other_parts, is_blank, IsActOf, IsReadAs, Names, Sends};
+
+use jsp_drive::Act;
+use jsp_frame::frame;
+use jsp_types::NoMemory;
+use std::alloc::Global;
+use std::str;
+
+/// What a line says.
+#[derive(Drop)]
+pub(crate) enum Line {
+    /// It is empty, or begins with `#`.
+    PassedOver,
+    Act(Act),
+    NotUnderstood,
+}
+
+/// Reads a line: `open c`, `send c JSON` or `shut c`, where c is a session's decimal number and JSON
+/// is all that is left of the line, sent as one frame. One blank stands between parts.
+pub(crate) fn read_line(alloc: Global, line: &[u8]) -> Result<Line, NoMemory>
+    requires { length line.now < 2 ^ 32 }
+    ensures { IfOk result (IsReadAs line.now) }
+{
+    if line.is_empty() || line.starts_with(b"#") {
+        return Ok(Line::PassedOver);
+    }
+    Ok(match act_of(alloc, line)? {
+        Some(act) => Line::Act(act),
+        None => Line::NotUnderstood,
+    })
+}
+
+/// The act that a line asks for, or none where it isn't understood.
+fn act_of(alloc: Global, line: &[u8]) -> Result<Option<Act>, NoMemory>
+    requires { length line.now < 2 ^ 32 }
+    ensures { IfOk result (λ r. MatchOption r ((a : AnAct) → IsActOf line.now a → ⊥) (IsActOf line.now)) }
+{
+    let Some((kind, rest)) = split_at_blank(line) else {
+        return Ok(None);
+    };
+    if kind == b"open".as_slice() {
+        Ok(number(rest).map(|session| Act::Open { session }))
+    } else if kind == b"shut".as_slice() {
+        Ok(number(rest).map(|session| Act::Shut { session }))
+    } else if kind == b"send".as_slice() {
+        Ok(send(alloc, rest)?.map(|(session, bytes)| Act::Piece { session, bytes }))
+    } else {
+        Ok(None)
+    }
+}
+
+/// The session and the bytes of what follows `send`. The payload is framed as it stands, also where
+/// it is no JSON or empty.
+fn send(alloc: Global, rest: &[u8]) -> Result<Option<(u64, Vec<u8>)>, NoMemory>
+    requires { length rest.now < 2 ^ 32 }
+    ensures { IfOk result (λ r. MatchOption r ((s : ℕ) (bytes : List ℕ) → Sends rest.now s bytes → ⊥) (λ p. Sends rest.now p.0 p.1.items)) }
+{
+    let Some((digits, payload)) = split_at_blank(rest) else {
+        return Ok(None);
+    };
+    let Some(session) = number(digits) else {
+        return Ok(None);
+    };
+    Ok(Some((session, frame(alloc, payload)?)))
+}
+
+/// What stands before the first blank, and behind it.
+fn split_at_blank(text: &[u8]) -> Option<(&[u8], &[u8])>
+    ensures none { IfNone result (IsFalse (list_any is_blank text.now)) }
+    ensures some { IfSome result (λ p. IsTrue (list_any is_blank text.now) × (p.0.now ≡ first_part text.now) × (p.1.now ≡ other_parts text.now)) }
+{
+    match first_blank(text) {
+        Some(place) => Some((&text[..place], &text[place + 1..])),
+        None => None,
+    }
+}
+
+fn first_blank(text: &[u8]) -> Option<usize>
+    ensures { result ≡ position is_blank text.now }
+{
+    text.iter().position(|b| *b == b' ')
+}
+
+/// The decimal number that digits alone name, below 2^64.
+fn number(text: &[u8]) -> Option<u64>
+    ensures { MatchOption result ((n : ℕ) → Names text.now n → ⊥) (Names text.now) }
+{
+    match str::from_utf8(text) {
+        Ok(digits) => plain_number(digits),
+        Err(_) => None,
+    }
+}
+
+fn plain_number(digits: &str) -> Option<u64>
+    ensures { MatchOption result ((n : ℕ) → Names digits.now n → ⊥) (Names digits.now) }
+{
+    // `parse` takes a plus too.
+    if digits.starts_with('+') {
+        return None;
+    }
+    match digits.parse::<u64>() {
+        Ok(number) => Some(number),
+        Err(_) => None,
+    }
+}

@@ -1,0 +1,112 @@
+//! A script from its text to what is printed.
+ghost use Rattle.std.specs.Prelude.{◌≡◌, ◌≤◌, ◌^◌, IfOk, IfErr, IfSome, OnOk, OnErr, length};
+ghost use Rattle.std.specs.Io.KnownBytes.{Appends, Keeps};
+ghost use Rattle.jsp_serve.specs.Script.{lines_of, FailsBy};
+ghost use Rattle.jsp_serve.specs.Print.{Prints, Wrote, IsRefused};
+
+use crate::fault::ScriptFault;
+use crate::lines::read_acts;
+use crate::print::printed;
+use jsp_drive::drive;
+use jsp_model::Config;
+use jsp_rows::RowsHouse;
+use std::alloc::Global;
+use std::io::{ErrorKind, Read, Write};
+use std::process::ExitCode;
+
+/// The longest script, in bytes.
+const LONGEST: u64 = 16_777_216;
+
+/// How a script ended.
+#[derive(Clone, Copy, Debug, PartialEq, Eq)]
+pub enum Status {
+    /// All was run and printed.
+    Done,
+    /// It ended at the first fault met, which was told.
+    Failed,
+}
+
+impl From<Status> for ExitCode {
+    fn from(status: Status) -> ExitCode {
+        match status {
+            Status::Done => ExitCode::SUCCESS,
+            Status::Failed => ExitCode::from(1),
+        }
+    }
+}
+
+/// Runs the script that `reader` gives, at most 16,777,216 bytes, over the spaces of `config`.
+///
+/// A line is `open c`, `send c JSON` or `shut c`; c is the decimal number of a session, below 2^64,
+/// one blank stands between parts, and JSON is the rest of the line. Empty lines and lines that begin
+/// with `#` are passed over. For each answer `c JSON` is written to `out`, line by line in the order
+/// in which the answers are given. The first fault met is told on `faults`. Where a line isn't
+/// understood or the input is too long, nothing is run. (This profile's own.)
+pub fn script<R: Read, W: Write, F: Write>(
+    alloc: Global,
+    config: &Config,
+    reader: &mut R,
+    out: &mut W,
+    faults: &mut F,
+) -> Status
+    ensures refused { IfSome (R.remaining reader.old) (λ text. IsRefused text → (result ≡ Status.Failed) × Keeps (W.contents out.old) (W.contents out.new)) }
+    ensures done { result ≡ Status.Done → IfSome (R.remaining reader.old) (λ text. Wrote config.now text (W.contents out.old) (W.contents out.new)) }
+{
+    match run_script(alloc, config, reader, out) {
+        Ok(()) => Status::Done,
+        Err(fault) => {
+            // The status tells of it too, where it can't be written.
+            let _ = writeln!(faults, "jsp: {fault}");
+            Status::Failed
+        }
+    }
+}
+
+fn run_script<R: Read, W: Write>(
+    alloc: Global,
+    config: &Config,
+    reader: &mut R,
+    out: &mut W,
+) -> Result<(), ScriptFault>
+    ensures ok { OnOk result (IfSome (R.remaining reader.old) (λ text. Wrote config.now text (W.contents out.old) (W.contents out.new))) }
+    ensures err { OnErr result (IfSome (R.remaining reader.old) (λ text. IsRefused text → Keeps (W.contents out.old) (W.contents out.new))) }
+{
+    let text = read_text(alloc, reader)?;
+    let printed = answers(alloc, config, text.as_slice())?;
+    write_text(out, printed.as_slice())
+}
+
+/// The lines that a script of this text prints.
+pub(crate) fn answers(alloc: Global, config: &Config, text: &[u8]) -> Result<Vec<u8>, ScriptFault>
+    requires { length text.now ≤ 2 ^ 24 }
+    ensures prints { IfOk result (λ printed. Prints config.now text.now printed.items) }
+    ensures fault { IfErr result (FailsBy (lines_of text.now)) }
+{
+    let acts = read_acts(alloc, text)?;
+    let house = RowsHouse::new(alloc, config)?;
+    let driven = drive(alloc, house, config, acts.as_slice())?;
+    Ok(printed(alloc, driven.sent.as_slice())?)
+}
+
+fn read_text<R: Read>(alloc: Global, reader: &mut R) -> Result<Vec<u8>, ScriptFault>
+    ensures within { IfOk result (λ text. length text.items ≤ 2 ^ 24) }
+    ensures bytes { IfOk result (λ text. IfSome (R.remaining reader.old) (λ all. text.items ≡ all)) }
+{
+    let mut text = Vec::new(alloc);
+    // One byte more than a script may have shows that it has too many.
+    match reader.take(LONGEST + 1).read_to_end(&mut text) {
+        Ok(_) if text.len() as u64 > LONGEST => Err(ScriptFault::TooLong),
+        Ok(_) => Ok(text),
+        Err(error) if error.kind() == ErrorKind::OutOfMemory => Err(ScriptFault::NoMemory),
+        Err(_) => Err(ScriptFault::CannotRead),
+    }
+}
+
+fn write_text<W: Write>(out: &mut W, text: &[u8]) -> Result<(), ScriptFault>
+    ensures { OnOk result (Appends (W.contents out.old) (W.contents out.new) text.now) }
+{
+    if out.write_all(text).is_err() || out.flush().is_err() {
+        return Err(ScriptFault::CannotWrite);
+    }
+    Ok(())
+}
