@@ -10,7 +10,7 @@ mod arguments;
 use arguments::{NAMES, command};
 use clap::ArgMatches;
 use clap::error::{Error, ErrorKind};
-use jsp_model::Config;
+use jsp_rows::Config;
 use jsp_serve::script;
 use jsp_types::{Items, NoMemory, Text};
 use std::alloc::Global;

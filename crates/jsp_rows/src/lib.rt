@@ -12,6 +12,9 @@ mod choosing;
 mod making;
 mod rows_house;
 
+// What the calls of a house speak of, so that its callers name one crate.
+pub use jsp_audit::{ReplayFault, Replayed, replay, replay_from};
+pub use jsp_model::{Config, House, Image, Input, Step, Stopped, Why};
 pub use rows_house::RowsHouse;
 
 #[cfg(test)]

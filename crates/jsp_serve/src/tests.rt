@@ -3,7 +3,7 @@ mod steps;
 mod streams;
 
 use crate::{Status, script};
-use jsp_model::Config;
+use jsp_rows::Config;
 use jsp_types::{Items, Text};
 use std::alloc::Global;
 use std::io::{self, ErrorKind, Read, Write};

@@ -1,10 +1,8 @@
 //! The steps of a script, and their replay.
 use super::{FIRST, two_spaces};
 use crate::lines::read_acts;
-use jsp_audit::{ReplayFault, replay};
 use jsp_drive::{Driven, drive};
-use jsp_model::Step;
-use jsp_rows::RowsHouse;
+use jsp_rows::{ReplayFault, RowsHouse, Step, replay};
 use std::alloc::Global;
 use std::test::Fail;
 
