@@ -1,5 +1,5 @@
 -- The parts of a line, and its numbers.
-use Rattle.std.proofs.Common.{◌≡◌, ℕ, ◌+◌, ◌-◌, ◌<◌, ◌≤◌, List, [], ◌∷◌, Bool, true, false, cond, nat_lt, refl, ap, sym, ◌∙◌, length, take, drop, get_or, arith, Some, None, length-drop}
+use Rattle.std.proofs.Common.{◌≡◌, ℕ, ◌+◌, ◌-◌, ◌<◌, ◌≤◌, List, [], ◌∷◌, Bool, true, false, cond, nat_lt, refl, ap, sym, ◌∙◌, length, take, drop, get_or, arith, Some, None, inl, inr, Result, Ok, Err, subst, length-drop}
 use Rattle.std.specs.Prelude.{position}
 use Rattle.std.specs.List.{list_any, position_or_len}
 use Rattle.std.specs.Str.{IsUtf8}
@@ -9,9 +9,12 @@ use Rattle.std.proofs.lemmas.Str.{IsUtf8-from_ascii}
 use Rattle.std.proofs.lemmas.Str.Parse.{digit_at}
 use Rattle.std.proofs.lemmas.Bool.{ltb-true}
 use Rattle.std.proofs.lemmas.Bool.Decides.{nat_tests}
+use Rattle.hex.proofs.OnLiterals.{hex_on_literals}
+use Rattle.hex.specs.Hex.{decode_of}
+use Rattle.hex.specs.declared.error.FromHexError.{FromHexError}
 use Rattle.jsp_drive.specs.declared.acts.Act.{Act}
 use Rattle.jsp_drive.specs.declared.acts.Act.TheVariants as act
-use Rattle.jsp_serve.specs.Script.{is_blank, first_part, other_parts, IsActOf, Names}
+use Rattle.jsp_serve.specs.Script.{is_blank, first_part, other_parts, IsActOf, Names, SendsRaw}
 
 -- ---- the first blank
 
@@ -69,5 +72,18 @@ empty_is_no_number text n e h = let none : length text ≡ 0 = ap length e in ab
 pub one_part_asks_nothing : (line : List ℕ) → list_any is_blank line ≡ false → (a : Act) → IsActOf line a → ⊥
 one_part_asks_nothing line h (act.Open s) is = empty_is_no_number (other_parts line) s (nothing_behind line h) is.1
 one_part_asks_nothing line h (act.Shut s) is = empty_is_no_number (other_parts line) s (nothing_behind line h) is.1
-one_part_asks_nothing line h (act.Piece s bytes) is = empty_is_no_number (first_part (other_parts line)) s (ap first_part (nothing_behind line h)) is.1.session
+one_part_asks_nothing line h (act.Piece s bytes) (inl is) = empty_is_no_number (first_part (other_parts line)) s (ap first_part (nothing_behind line h)) is.1.session
+one_part_asks_nothing line h (act.Piece s bytes) (inr is) = empty_is_no_number (first_part (other_parts line)) s (ap first_part (nothing_behind line h)) is.1.session
 one_part_asks_nothing line h (act.Clock t) is = is
+
+-- nor does a text without a blank name bytes to send
+pub one_part_sends_nothing : (rest : List ℕ) (s : ℕ) (bytes : List ℕ) → list_any is_blank rest ≡ false → SendsRaw rest s bytes → ⊥
+unfolding hex_on_literals
+one_part_sends_nothing rest s bytes h is =
+    let none : decode_of [] ≡ Ok bytes = subst (λ text. decode_of text ≡ Ok bytes) (nothing_behind rest h) is.bytes_are.0 in
+    let empty : 0 ≡ length bytes = ap read_length none in
+    absurd (omega (arith, empty, is.bytes_are.1))
+  where
+    read_length : Result (List ℕ) FromHexError → ℕ
+    read_length (Ok read) = length read
+    read_length (Err e) = 0

@@ -1,7 +1,8 @@
 -- What a script asks for.
-use Rattle.std.specs.Prelude.{ℕ, ◌≡◌, ◌+◌, ◌<◌, ◌==◌, ◌^◌, Bool, true, not, List, [], ◌∷◌, ◌++◌, ⊤, IsTrue, IsFalse, filter, length, codes}
+use Rattle.std.specs.Prelude.{ℕ, ◌≡◌, ◌+◌, ◌<◌, ◌==◌, ◌^◌, ◌⊎◌, Bool, true, not, List, [], ◌∷◌, ◌++◌, ⊤, IsTrue, IsFalse, filter, length, codes, Ok}
 use Rattle.std.specs.List.{AllZip, list_any, before_first, after_first, slice_split}
 use Rattle.std.specs.Str.Parse.{IsNumeral, digits_value}
+use Rattle.hex.specs.Hex.{decode_of}
 use Rattle.jsp_frame.specs.Stream.{frame_of}
 use Rattle.jsp_drive.specs.declared.acts.Act.{Act}
 use Rattle.jsp_drive.specs.declared.acts.Act.TheVariants as act
@@ -37,11 +38,22 @@ pub record Sends (rest : List ℕ) (s : ℕ) (bytes : List ℕ) : Type 0 where
   pub has_payload : IsTrue (list_any is_blank rest)
   pub bytes_are : bytes ≡ frame_of (other_parts rest)
 
--- `open c`, `shut c`, or `send c JSON`
+-- one or more pairs of hex digits, of either case, and their bytes
+abbrev pub IsHexOf : List ℕ → List ℕ → Type 0
+IsHexOf text bytes = (decode_of text ≡ Ok bytes) × (0 < length bytes)
+
+-- what follows `hex`: a session, and the bytes that it sends
+pub record SendsRaw (rest : List ℕ) (s : ℕ) (bytes : List ℕ) : Type 0 where
+  pub session : Names (first_part rest) s
+  pub bytes_are : IsHexOf (other_parts rest) bytes
+
+-- `open c`, `shut c`, `send c JSON`, or `hex c HEX`
 abbrev pub IsActOf : List ℕ → Act → Type 0
 IsActOf line (act.Open s) = (first_part line ≡ codes "open") × Names (other_parts line) s
 IsActOf line (act.Shut s) = (first_part line ≡ codes "shut") × Names (other_parts line) s
-IsActOf line (act.Piece s bytes) = (first_part line ≡ codes "send") × Sends (other_parts line) s bytes.items
+IsActOf line (act.Piece s bytes) =
+    ((first_part line ≡ codes "send") × Sends (other_parts line) s bytes.items)
+    ⊎ ((first_part line ≡ codes "hex") × SendsRaw (other_parts line) s bytes.items)
 IsActOf line (act.Clock t) = ⊥
 
 -- it isn't passed over, and asks for no act

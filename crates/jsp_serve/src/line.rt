@@ -2,8 +2,9 @@
 ghost use Rattle.std.specs.Prelude.{ℕ, List, ◌≡◌, ◌<◌, ◌^◌, IfOk, IfSome, IfNone, MatchOption, IsTrue, IsFalse, length};
 ghost use Rattle.std.specs.List.{list_any, position};
 ghost use Rattle.jsp_drive.specs.declared.acts.Act.{Act as AnAct};
-ghost use Rattle.jsp_serve.specs.Script.{first_part, other_parts, is_blank, IsActOf, IsReadAs, Names, Sends};
+ghost use Rattle.jsp_serve.specs.Script.{first_part, other_parts, is_blank, IsActOf, IsReadAs, IsHexOf, Names, Sends, SendsRaw};
 
+use hex::FromHexError;
 use jsp_drive::Act;
 use jsp_frame::frame;
 use jsp_types::NoMemory;
@@ -19,8 +20,9 @@ pub(crate) enum Line {
     NotUnderstood,
 }
 
-/// Reads a line: `open c`, `send c JSON` or `shut c`, where c is a session's decimal number and JSON
-/// is all that is left of the line, sent as one frame. One blank stands between parts.
+/// Reads a line: `open c`, `send c JSON`, `hex c HEX` or `shut c`. c is a session's decimal number,
+/// JSON is all that is left of the line, sent as one frame, and HEX is one or more pairs of hex
+/// digits, sent as these bytes. One blank stands between parts.
 pub(crate) fn read_line(alloc: Global, line: &[u8]) -> Result<Line, NoMemory>
     requires { length line.now < 2 ^ 32 }
     ensures { IfOk result (IsReadAs line.now) }
@@ -48,6 +50,8 @@ fn act_of(alloc: Global, line: &[u8]) -> Result<Option<Act>, NoMemory>
         Ok(number(rest).map(|session| Act::Shut { session }))
     } else if kind == b"send".as_slice() {
         Ok(send(alloc, rest)?.map(|(session, bytes)| Act::Piece { session, bytes }))
+    } else if kind == b"hex".as_slice() {
+        Ok(raw(alloc, rest)?.map(|(session, bytes)| Act::Piece { session, bytes }))
     } else {
         Ok(None)
     }
@@ -66,6 +70,34 @@ fn send(alloc: Global, rest: &[u8]) -> Result<Option<(u64, Vec<u8>)>, NoMemory>
         return Ok(None);
     };
     Ok(Some((session, frame(alloc, payload)?)))
+}
+
+/// The session and the bytes of what follows `hex`.
+fn raw(alloc: Global, rest: &[u8]) -> Result<Option<(u64, Vec<u8>)>, NoMemory>
+    ensures { IfOk result (λ r. MatchOption r ((s : ℕ) (bytes : List ℕ) → SendsRaw rest.now s bytes → ⊥) (λ p. SendsRaw rest.now p.0 p.1.items)) }
+{
+    let Some((digits, pairs)) = split_at_blank(rest) else {
+        return Ok(None);
+    };
+    let Some(session) = number(digits) else {
+        return Ok(None);
+    };
+    let Some(bytes) = decoded(alloc, pairs)? else {
+        return Ok(None);
+    };
+    Ok(Some((session, bytes)))
+}
+
+/// The bytes of one or more pairs of hex digits.
+fn decoded(alloc: Global, pairs: &[u8]) -> Result<Option<Vec<u8>>, NoMemory>
+    ensures { IfOk result (λ r. MatchOption r ((bytes : List ℕ) → IsHexOf pairs.now bytes → ⊥) (λ v. IsHexOf pairs.now v.items)) }
+{
+    match hex::decode(alloc, pairs) {
+        Ok(bytes) if bytes.is_empty() => Ok(None),
+        Ok(bytes) => Ok(Some(bytes)),
+        Err(FromHexError::OutOfMemory) => Err(NoMemory),
+        Err(_) => Ok(None),
+    }
 }
 
 /// What stands before the first blank, and behind it.

@@ -36,11 +36,12 @@ impl From<Status> for ExitCode {
 
 /// Runs the script that `reader` gives, at most 16,777,216 bytes, over the spaces of `config`.
 ///
-/// A line is `open c`, `send c JSON` or `shut c`; c is the decimal number of a session, below 2^64,
-/// one blank stands between parts, and JSON is the rest of the line. Empty lines and lines that begin
-/// with `#` are passed over. For each answer `c JSON` is written to `out`, line by line in the order
-/// in which the answers are given. The first fault met is told on `faults`. Where a line isn't
-/// understood or the input is too long, nothing is run. (This profile's own.)
+/// A line is `open c`, `send c JSON`, `hex c HEX` or `shut c`; c is the decimal number of a session,
+/// below 2^64, one blank stands between parts, JSON is the rest of the line, and HEX is one or more
+/// pairs of hex digits. Empty lines and lines that begin with `#` are passed over. For each answer
+/// `c JSON` is written to `out`, line by line in the order in which the answers are given. The first
+/// fault met is told on `faults`. Where a line isn't understood or the input is too long, nothing is
+/// run. (This profile's own.)
 pub fn script<R: Read, W: Write, F: Write>(
     alloc: Global,
     config: &Config,

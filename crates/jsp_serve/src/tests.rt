@@ -113,6 +113,31 @@ fn payloads_are_framed_as_they_stand(rt: HostRuntime) -> Result<(), Fail> {
 }
 
 #[test]
+fn hex_sends_bytes_as_they_are(rt: HostRuntime) -> Result<(), Fail> {
+    let scripts = [
+        ("open 1\nhex 1 000000\nshut 1\n", ""),
+        ("open 1\nhex 1 00000000\n", "1 {\"fault\":1,\"id\":null}\n"),
+        (
+            "open 1\nhex 1 00\nhex 1 0000027b\nhex 1 7D\n",
+            "1 {\"fault\":2,\"id\":null}\n",
+        ),
+        (
+            "open 1\nhex 1 00010001\nsend 1 {}\n",
+            "1 {\"fault\":21,\"id\":null}\n",
+        ),
+        ("open 1\nhex 2 00000000\n", ""),
+    ];
+    for (text, prints) in scripts {
+        assert_eq!(rt;
+            runs(rt.alloc(), text.as_bytes())?.as_str(),
+            prints,
+            "{text:?}"
+        );
+    }
+    Ok(())
+}
+
+#[test]
 fn lines_that_are_not_understood(rt: HostRuntime) -> Result<(), Fail> {
     let lines = [
         "open",
@@ -133,7 +158,13 @@ fn lines_that_are_not_understood(rt: HostRuntime) -> Result<(), Fail> {
         "shut",
         "shut 1 2",
         "settle",
-        "hex 1 00",
+        "hex",
+        "hex 1",
+        "hex 1 ",
+        "hex 1 0",
+        "hex 1 0g",
+        "hex 1 00 ",
+        "hex x 00",
         " ",
         "jobs",
     ];
