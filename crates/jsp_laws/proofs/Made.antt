@@ -1,5 +1,5 @@
 -- Each legal step is made of changes.
-use Rattle.std.proofs.Common.{◌≡◌, refl, sym, subst, ℕ, ℤ, ◌+◌, List, [], ◌∷◌, ◌++◌, Bool, true, false, not, cond, ◌&&◌, filter, find, fold, Option, Some, None, is_some, is_none, ◌==◌, min, max, length, nat_lt, ◌^◌, eqb-true, if◌then◌else◌}
+use Rattle.std.proofs.Common.{◌≡◌, refl, sym, subst, ℕ, ℤ, ◌+◌, List, [], ◌∷◌, ◌++◌, Bool, true, false, not, cond, ◌&&◌, filter, find, fold, Option, Some, None, is_some, is_none, option_map, ◌==◌, min, max, length, nat_lt, ◌^◌, eqb-true, if◌then◌else◌}
 use Rattle.std.specs.List.{list_all}
 use Rattle.std.specs.Option.{option_map_or}
 use Rattle.jsp_types.specs.Classes.{first_that, declared}
@@ -30,6 +30,8 @@ use Rattle.jsp_model.specs.Answers.{said}
 use Rattle.jsp_model.specs.Due.{due}
 use Rattle.jsp_model.specs.Quiet.{are_quiet}
 use Rattle.jsp_model.specs.Touches.{touches}
+use Rattle.jsp_model.specs.Laws.{next_asked, page_asked}
+use Rattle.jsp_laws.specs.Commits.{after_vote}
 use Rattle.jsp_laws.proofs.Lists.{Each, Has, each_kept, each_itself, each_found, has_mapped, has_kept, has_last, fold_keeps, fold_keeps_each, contains_dropped, contains_without}
 use Rattle.jsp_laws.proofs.Living.{lives}
 use Rattle.jsp_laws.proofs.Change.{Kind, Lives, SameRow, joined, voted, extended, other, transact, touch_rows, touch_registrations, touch_sets, turns, keep_rows, keep_registrations, keep_blocked, keep_sets, put, owes, gives, blocks, registers, opens, begins, aborts, commits, asks, Changes, none, then_, one, both}
@@ -45,12 +47,30 @@ abbrev pub vote_in : State → Step → Option (ℕ × ℕ × ℕ)
 vote_in st (step.Vote x space) = Some (x, space, crash_count st space)
 vote_in st _ = None
 
-abbrev pub kind_of : State → Step → Kind
-kind_of st act = record { committed = committed_by act; vote = vote_in st act }
+-- the joined space as that vote leaves it
+abbrev pub recorded_in : State → Step → Option Joined
+recorded_in st (step.Vote x space) = option_map (after_vote st x) (joined_at st x space)
+recorded_in st _ = None
 
--- a step that commits nothing, and in which nobody votes
-abbrev pub plain : Kind
-plain = record { committed = None; vote = None }
+-- the request opens a match set
+abbrev pub opens_set : Ask → Bool
+opens_set (ask.Contents q) = true
+opens_set _ = false
+
+abbrev pub opening_in : Step → Bool
+opening_in (step.Ask s a ns) = opens_set a.ask
+opening_in _ = false
+
+-- the match set whose page is turned
+abbrev pub set_turned : Option (ℕ × ℕ) → Option ℕ
+set_turned o = option_map (λ p. p.0) o
+
+abbrev pub kind_of : State → Step → Kind
+kind_of st act = record { committed = committed_by act; vote = vote_in st act; recorded = recorded_in st act; opening = opening_in act; turned = set_turned (page_asked (record { state = st; step = act })) }
+
+-- what a request does, refused for this or not
+abbrev kind_asked : Ask → Option Refusal → Kind
+kind_asked a o = record { committed = None; vote = None; recorded = None; opening = opens_set a; turned = set_turned (if is_none o then next_asked a else None) }
 
 pub not_false : (b : Bool) → not b ≡ false → b ≡ true
 not_false true e = refl
@@ -103,15 +123,15 @@ pub record Joining (st : State) (after : State) : Type 0 where
   pub ts : List Transaction
   pub is : after ≡ record st { transactions = ts }
   pub grows : Grows st.transactions ts
-  pub changes : Changes plain st (record st { transactions = ts })
+  pub changes : (c : Kind) → Changes c st (record st { transactions = ts })
 
 stays : (st : State) → Joining st st
-stays st = record { ts = st.transactions; is = refl; grows = λ x e. e; changes = none }
+stays st = record { ts = st.transactions; is = refl; grows = λ x e. e; changes = λ c. none }
 
 join_new : (st : State) (x space : ℕ) (b : Bool) → is_some (joined_at st x space) ≡ b
     → Joining st (cond b st (record st { transactions = update (λ t. t.number == x) (λ (t : Transaction). record t { joined = t.joined ++ newly_joined st space ∷ [] }) st.transactions }))
 join_new st x space true e = stays st
-join_new st x space false e = record { ts = _; is = refl; grows = grows_reshaped {c = plain} {st = st} (joined x space e); changes = one (transact (joined x space e)) }
+join_new st x space false e = record { ts = _; is = refl; grows = grows_reshaped {c = kind_asked ask.Bye None} {st = st} (joined x space e); changes = λ c. one (transact (joined x space e)) }
 
 pub joining : (st : State) (o : Option ℕ) (space : ℕ) → Joining st (join st o space)
 joining st None space = stays st
@@ -140,21 +160,18 @@ caller_lives ts (Some y) e x k = let w : y ≡ x = cc in rw w at (not_false (liv
 
 -- ---- requests
 
-abbrev pub Accepts : State → State → Type 0
-Accepts st after = Changes plain st after
-
-write_changes : (st : State) (w : WriteRequest) → Lives st.transactions (caller_of w.txn) → Accepts st (write st w)
-write_changes st w l =
+write_changes : {c : Kind} (st : State) (w : WriteRequest) → c.opening ≡ false → Lives st.transactions (caller_of w.txn) → Changes c st (write st w)
+write_changes {c = c} st w o l =
     let j = joining st (caller_of w.txn) (place_of st w.space) in
-    subst (λ k. Accepts st (fold (λ st raw. add_row st (new_row st w raw)) k w.entries)) (sym j.is)
+    subst (λ k. Changes c st (fold (λ st raw. add_row st (new_row st w raw)) k w.entries)) (sym j.is)
     (fold_keeps Good (λ st raw. add_row st (new_row st w raw)) (λ b raw g. (
-      both g.0 (then_ (put (new_row b w raw) refl refl refl g.1) (one (owes (new_row b w raw) (has_last b.rows (new_row b w raw))))),
+      both g.0 (then_ (put (new_row b w raw) refl refl refl g.1 o) (one (owes (new_row b w raw) (has_last b.rows (new_row b w raw))))),
       g.1,
     ))
-    w.entries (record st { transactions = j.ts }) (j.changes, lives_in st.transactions j.ts (caller_of w.txn) j.grows l)).0
+    w.entries (record st { transactions = j.ts }) (j.changes c, lives_in st.transactions j.ts (caller_of w.txn) j.grows l)).0
   where
     Good : State → Type 0
-    Good b = Changes plain st b × Lives b.transactions (caller_of w.txn)
+    Good b = Changes c st b × Lives b.transactions (caller_of w.txn)
 
 pub second : (a b d : Bool) → (a && b && d) ≡ true → b ≡ true
 second true true d e = refl
@@ -164,16 +181,16 @@ second false b d e = absurd (cc)
 pub choice_available : (st : State) (b : Blocked) (ns : List ℕ) → is_choice st b ns ≡ true → list_all (contains (available st b)) ns ≡ true
 choice_available st b ns e = second (is_rising ns) (list_all (contains (available st b)) ns) (length ns == min b.most (length (available st b))) e
 
-seek_changes : (st : State) (s id : ℕ) (q : RowRequest) (ns : List ℕ) → Lives st.transactions (caller_of q.txn) → is_choice st (as_blocked st s id q) ns ≡ true → Accepts st (give_or_block st s id q ns)
-seek_changes st s id q ns l e =
+seek_changes : {c : Kind} (st : State) (s id : ℕ) (q : RowRequest) (ns : List ℕ) → Lives st.transactions (caller_of q.txn) → is_choice st (as_blocked st s id q) ns ≡ true → Changes c st (give_or_block st s id q ns)
+seek_changes {c = c} st s id q ns l e =
     let b = as_blocked st s id q in
     let j = joining st (caller_of q.txn) (place_of st q.space) in
     let l' : Lives j.ts (caller_of q.txn) = lives_in st.transactions j.ts (caller_of q.txn) j.grows l in
-    subst (λ k. Accepts st (cond (would_block st s id q) (block k b) (give k b ns))) (sym j.is)
-    (choice (would_block st s id q) _ _ (both j.changes (one (blocks b refl l'))) (both j.changes (one (gives b ns l' (choice_available st b ns e)))))
+    subst (λ k. Changes c st (cond (would_block st s id q) (block k b) (give k b ns))) (sym j.is)
+    (choice (would_block st s id q) _ _ (both (j.changes c) (one (blocks b refl l'))) (both (j.changes c) (one (gives b ns l' (choice_available st b ns e)))))
 
-register_changes : (st : State) (s : ℕ) (q : Notify) → Lives st.transactions (caller_of q.txn) → Accepts st (register st s q)
-register_changes st s q l =
+register_changes : {c : Kind} (st : State) (s : ℕ) (q : Notify) → Lives st.transactions (caller_of q.txn) → Changes c st (register st s q)
+register_changes {c = c} st s q l =
     let j = joining st (caller_of q.txn) (place_of st q.space) in
     let r : Registration = record {
       number = st.next_number;
@@ -186,11 +203,11 @@ register_changes st s q l =
       sequence = 0;
       owed = [];
     } in
-    subst (λ (k : State). Accepts st (record k { registrations = st.registrations ++ r ∷ []; next_number = st.next_number + 1 })) (sym j.is)
-    (both j.changes (one (registers r refl refl (lives_in st.transactions j.ts (caller_of q.txn) j.grows l))))
+    subst (λ (k : State). Changes c st (record k { registrations = st.registrations ++ r ∷ []; next_number = st.next_number + 1 })) (sym j.is)
+    (both (j.changes c) (one (registers r refl refl (lives_in st.transactions j.ts (caller_of q.txn) j.grows l))))
 
-open_set_changes : (st : State) (s : ℕ) (q : Contents) → Lives st.transactions (caller_of q.txn) → Accepts st (open_set st s q)
-open_set_changes st s q l =
+open_set_changes : {c : Kind} (st : State) (s : ℕ) (q : Contents) → c.opening ≡ true → Lives st.transactions (caller_of q.txn) → Changes c st (open_set st s q)
+open_set_changes {c = c} st s q o l =
     let j = joining st (caller_of q.txn) (place_of st q.space) in
     let m : MatchSet = record {
       number = st.next_number;
@@ -201,21 +218,21 @@ open_set_changes st s q l =
       end = st.time + ms_of q.lease;
       cursor = 0;
     } in
-    subst (λ (k : State). Accepts st (record k { sets = st.sets ++ m ∷ []; next_number = st.next_number + 1 })) (sym j.is)
-    (both j.changes (one (opens m refl (lives_in st.transactions j.ts (caller_of q.txn) j.grows l))))
+    subst (λ (k : State). Changes c st (record k { sets = st.sets ++ m ∷ []; next_number = st.next_number + 1 })) (sym j.is)
+    (both (j.changes c) (one (opens m refl (lives_in st.transactions j.ts (caller_of q.txn) j.grows l) o refl)))
 
-reset_changes : (st : State) (space : ℕ) → Accepts st (reset st space)
+reset_changes : {c : Kind} (st : State) (space : ℕ) → Changes c st (reset st space)
 reset_changes st space = then_ (keep_rows _) (then_ (keep_registrations _) (then_ (keep_blocked _) (then_ (keep_sets _) (one (other st.classes (reset st space).spaces st.sessions st.last_session st.time st.outboxes)))))
 
-renew_all : (st : State) (leases : List (ℤ × ℤ)) → Accepts st (fold renew_one st leases)
-renew_all st leases = fold_keeps (λ b. Accepts st b) renew_one (λ b l h. both h (choice (is_some (first_that (renew_tests b l.0 l.1))) _ _ none (renew_changes b l.0 l.1))) leases st none
+renew_all : {c : Kind} (st : State) (leases : List (ℤ × ℤ)) → Changes c st (fold renew_one st leases)
+renew_all {c = c} st leases = fold_keeps (λ b. Changes c st b) renew_one (λ b l h. both h (choice (is_some (first_that (renew_tests b l.0 l.1))) _ _ none (renew_changes b l.0 l.1))) leases st none
 
-cancel_all : (st : State) (leases : List ℤ) → Accepts st (fold cancel_one st leases)
-cancel_all st leases = fold_keeps (λ b. Accepts st b) cancel_one (λ b l h. both h (choice (is_some (first_that (number_tests b l))) _ _ none (cancel_changes b l refl))) leases st none
+cancel_all : {c : Kind} (st : State) (leases : List ℤ) → c.committed ≡ None → Changes c st (fold cancel_one st leases)
+cancel_all {c = c} st leases k = fold_keeps (λ b. Changes c st b) cancel_one (λ b l h. both h (choice (is_some (first_that (number_tests b l))) _ _ none (cancel_changes b l k))) leases st none
 
-accepted_changes : (st : State) (s id : ℕ) (ns : List ℕ) (a : Ask) → Failed (tests st s id a) → has_its_rows st s id ns None (rows_asked a) ≡ true → Accepts st (accepted st s id ns a)
+accepted_changes : (st : State) (s id : ℕ) (ns : List ℕ) (a : Ask) → Failed (tests st s id a) → has_its_rows st s id ns None (rows_asked a) ≡ true → Changes (kind_asked a None) st (accepted st s id ns a)
 accepted_changes st s id ns (ask.Declare d) f e = one (other (declared st.classes (class_asked d)) st.spaces st.sessions st.last_session st.time st.outboxes)
-accepted_changes st s id ns (ask.Write w) f e = write_changes st (one_entry w) (caller_lives st.transactions (caller_of w.txn) f.1.1.0)
+accepted_changes st s id ns (ask.Write w) f e = write_changes st (one_entry w) refl (caller_lives st.transactions (caller_of w.txn) f.1.1.0)
 accepted_changes st s id ns (ask.Read q) f e = seek_changes st s id (one_row form.Read q) ns (caller_lives st.transactions (caller_of q.txn) f.1.1.0) e
 accepted_changes st s id ns (ask.ReadIf q) f e = seek_changes st s id (one_row form.ReadIf q) ns (caller_lives st.transactions (caller_of q.txn) f.1.1.0) e
 accepted_changes st s id ns (ask.Take q) f e = seek_changes st s id (one_row form.Take q) ns (caller_lives st.transactions (caller_of q.txn) f.1.1.0) e
@@ -224,7 +241,7 @@ accepted_changes st s id ns (ask.Notify q) f e = register_changes st s q (caller
 accepted_changes st s id ns (ask.Renew lease ms) f e = renew_changes st lease ms
 accepted_changes st s id ns (ask.Cancel lease) f e = cancel_changes st lease refl
 accepted_changes st s id ns (ask.RenewAll leases) f e = renew_all st leases
-accepted_changes st s id ns (ask.CancelAll leases) f e = cancel_all st leases
+accepted_changes st s id ns (ask.CancelAll leases) f e = cancel_all st leases refl
 accepted_changes st s id ns (ask.Txn lease) f e = one (begins _ refl refl)
 accepted_changes st s id ns (ask.Commit x) f e = one (asks s id (named x) (not_false (is_living st (named x)) f.1.0) f.1.1.0)
 accepted_changes st s id ns (ask.Abort x) f e = one (aborts (named x) refl)
@@ -233,10 +250,10 @@ accepted_changes st s id ns (ask.Reset space) f e = reset_changes st (place_of s
 accepted_changes st s id ns ask.Spaces f e = none
 accepted_changes st s id ns ask.Bye f e = close_changes st s
 accepted_changes st s id ns (ask.Hello v) f e = one (other st.classes st.spaces (set_version st s v).sessions st.last_session st.time st.outboxes)
-accepted_changes st s id ns (ask.WriteAll w) f e = write_changes st (all_entries w) (caller_lives st.transactions (caller_of w.txn) f.1.1.0)
+accepted_changes st s id ns (ask.WriteAll w) f e = write_changes st (all_entries w) refl (caller_lives st.transactions (caller_of w.txn) f.1.1.0)
 accepted_changes st s id ns (ask.TakeMany q) f e = seek_changes st s id (many_rows q) ns (caller_lives st.transactions (caller_of q.txn) f.1.1.0) e
-accepted_changes st s id ns (ask.Contents q) f e = open_set_changes st s q (caller_lives st.transactions (caller_of q.txn) f.1.1.0)
-accepted_changes st s id ns (ask.Next set most) f e = one (turns (named set) most)
+accepted_changes st s id ns (ask.Contents q) f e = open_set_changes st s q refl (caller_lives st.transactions (caller_of q.txn) f.1.1.0)
+accepted_changes st s id ns (ask.Next set most) f e = one (turns (named set) most refl refl)
 accepted_changes st s id ns (ask.CloseSet set) f e = one (keep_sets _)
 
 -- ---- a commit
@@ -260,7 +277,7 @@ freed_stands x rows row e h =
     = subst (λ z. Has (update (λ row. is_caller row.writer x) (λ (row : Row). record row { writer = None }) (filter (λ row. not (is_caller row.taker x)) rows)) z) k b in
     has_mapped (unread x) _ (record row { writer = None }) d
 
-commit_changes : (st : State) (x : ℕ) → Changes (record { committed = Some x; vote = None }) st (commit st x)
+commit_changes : (st : State) (x : ℕ) → Changes (record { committed = Some x; vote = None; recorded = None; opening = false; turned = None }) st (commit st x)
 commit_changes st x =
     (fold_keeps_each Stands Good (owe None)
     (λ b row h g. (both g.0 (one (owes (freed x row) (subst (λ rows. Has rows (freed x row)) (sym g.1) h))), g.1))
@@ -273,7 +290,7 @@ commit_changes st x =
     Stands row = Has (committed x st.rows) (freed x row)
 
     Good : State → Type 0
-    Good b = Changes (record { committed = Some x; vote = None }) st b × (b.rows ≡ committed x st.rows)
+    Good b = Changes (record { committed = Some x; vote = None; recorded = None; opening = false; turned = None }) st b × (b.rows ≡ committed x st.rows)
 
 -- ---- a vote
 
@@ -292,12 +309,12 @@ each_true (x ∷ xs) = (tt, each_true xs)
 pub found_passes : {A : Type 0} (t : A → Bool) (xs : List A) (y : A) → find t xs ≡ Some y → t y ≡ true
 found_passes {A = A} t xs y e = (each_found (λ (x : A). Unit {0}) t xs y (each_true xs) e).1
 
-vote_changes : {c : Kind} (st : State) (x space : ℕ) (o : Option Joined) → c.vote ≡ Some (x, space, crash_count st space) → joined_at st x space ≡ o → option_map_or (λ j. is_none j.vote) o false ≡ true → Changes c st (option_map_or (cast st x) o st)
-vote_changes st x space None w k e = none
-vote_changes {c = c} st x space (Some j) w k e =
+vote_changes : {c : Kind} (st : State) (x space : ℕ) (o : Option Joined) → c.vote ≡ Some (x, space, crash_count st space) → c.recorded ≡ option_map (after_vote st x) o → joined_at st x space ≡ o → option_map_or (λ j. is_none j.vote) o false ≡ true → Changes c st (option_map_or (cast st x) o st)
+vote_changes st x space None w z k e = none
+vote_changes {c = c} st x space (Some j) w z k e =
     let here : j.space ≡ space = eqb-true j.space space (found_passes (λ i. i.space == space) (joined_of st x) j k) in
     let at : joined_at st x j.space ≡ Some j = subst (λ z. joined_at st x z ≡ Some j) (sym here) k in
-    then_ (transact (voted x j at (is_none_none j.vote e) (subst (λ z. c.vote ≡ Some (x, z, crash_count st z)) (sym here) w)))
+    then_ (transact (voted x j at (is_none_none j.vote e) (subst (λ z. c.vote ≡ Some (x, z, crash_count st z)) (sym here) w) z))
     (one (touch_rows (λ row. is_not_changed (vote_of st x j) && row.space == j.space) (unread x) (release_same true x)))
 
 -- ---- each step
@@ -310,7 +327,7 @@ grant_changes st n ns (Some b) s k e =
     let a : is_choice st b ns ≡ true = (and_both (nat_lt 0 (length ns)) (is_choice st b ns) e).1 in
     then_ (gives b ns l (choice_available st b ns a)) (one (keep_blocked _))
 
-ask_changes : (st : State) (s id : ℕ) (ns : List ℕ) (a : Ask) (o : Option Refusal) → refusal st s id a ≡ o → has_its_rows st s id ns o (rows_asked a) ≡ true → Accepts st (asked st s id ns a o)
+ask_changes : (st : State) (s id : ℕ) (ns : List ℕ) (a : Ask) (o : Option Refusal) → refusal st s id a ≡ o → has_its_rows st s id ns o (rows_asked a) ≡ true → Changes (kind_asked a o) st (asked st s id ns a o)
 unfolding refusal
 ask_changes st s id ns a None k e = accepted_changes st s id ns a (all_failed (tests st s id a) k) e
 ask_changes st s id ns a (Some r) k e = none
@@ -321,7 +338,7 @@ fourth true true false e k = absurd (cc)
 fourth true false d e k = absurd (cc)
 fourth false b d e k = absurd (cc)
 
-decide_changes : (st : State) (x : ℕ) (c : Bool) → Changes (record { committed = cond c (Some x) None; vote = None }) st (cond c (commit st x) (abort st x))
+decide_changes : (st : State) (x : ℕ) (c : Bool) → Changes (record { committed = cond c (Some x) None; vote = None; recorded = None; opening = false; turned = None }) st (cond c (commit st x) (abort st x))
 decide_changes st x true = commit_changes st x
 decide_changes st x false = one (aborts x refl)
 
@@ -336,7 +353,7 @@ change_changes st (step.Grant n ns) e k = grant_changes st n ns (blocked_of st n
 change_changes st (step.Empty n) e k = one (keep_blocked _)
 change_changes st (step.Tell n) e k = one (touch_registrations _ _ (record { number = λ r. refl; transaction = λ r. refl; owed = λ r m q. contains_dropped r.owed m q }))
 change_changes st (step.Due item) e k = remove_changes st item.rank item.number refl
-change_changes st (step.Vote x space) e k = vote_changes st x space (joined_at st x space) refl refl (second (is_voting st x) (option_map_or (λ j. is_none j.vote) (joined_at st x space) false) (are_quiet st (touches st (step.Vote x space))) e)
+change_changes st (step.Vote x space) e k = vote_changes st x space (joined_at st x space) refl refl refl (second (is_voting st x) (option_map_or (λ j. is_none j.vote) (joined_at st x space) false) (are_quiet st (touches st (step.Vote x space))) e)
 change_changes st (step.Decide x c) e k = decide_changes st x c
 change_changes st (step.HandOut s n) e k = none
 
