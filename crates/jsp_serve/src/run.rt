@@ -26,6 +26,11 @@ pub enum Status {
 }
 
 impl From<Status> for ExitCode {
+    ghost use Rattle.std.specs.Process.{exit_status};
+    ghost use Rattle.jsp_serve.specs.Exit.{exit_of};
+
+    ghost from_gives = { λ status code. exit_status code ≡ exit_of status };
+
     fn from(status: Status) -> ExitCode {
         match status {
             Status::Done => ExitCode::SUCCESS,
