@@ -14,7 +14,7 @@ use Rattle.jsp_wire.specs.declared.ask.Ask.TheVariants as ask
 use Rattle.jsp_wire.specs.declared.ask.Declare.{Declare}
 use Rattle.jsp_wire.specs.declared.ask.Search.{Search}
 use Rattle.jsp_wire.specs.declared.ask.Write.{Write}
-use Rattle.jsp_wire.specs.Limits.{is_built}
+use Rattle.jsp_wire.specs.Limits.{is_built, is_plain}
 use Rattle.jsp_reply.specs.declared.reply.Reply.{Reply}
 use Rattle.jsp_reply.specs.declared.refusal.Refusal.{Refusal}
 use Rattle.jsp_model.specs.declared.state.State.{State}
@@ -25,7 +25,7 @@ use Rattle.jsp_model.specs.declared.state.Form.TheVariants as form
 use Rattle.jsp_model.specs.declared.step.Step.TheVariants as step
 use Rattle.jsp_model.specs.Lookup.{is_open, contains, is_waiting, is_living, is_voting, space_named}
 use Rattle.jsp_model.specs.Refusals.{refusal, one_row, one_entry, as_blocked, class_asked, rows_in, place_of, ms_of, granted, caller_of, joined_otherwise, is_used_up}
-use Rattle.jsp_model.specs.Changes.{accepted, new_row, taken_by}
+use Rattle.jsp_model.specs.Changes.{accepted, new_row, read_by, taken_by}
 use Rattle.jsp_model.specs.Answers.{said}
 use Rattle.jsp_model.specs.Steps.{next, post}
 use Rattle.jsp_audit.specs.Rows.{without}
@@ -85,8 +85,19 @@ given_rows ns (r ∷ rows) =
     elim (contains ns r.number) as (λ b. cond b [] (r ∷ []) ++ flat_map (λ (row : Row). if contains ns row.number then taken_by None row else row ∷ []) rows ≡ cond (not b) (r ∷ filter (λ (row : Row). not (contains ns row.number)) rows) (filter (λ (row : Row). not (contains ns row.number)) rows))
     [ true ↦ rest | false ↦ ap (λ w. r ∷ w) rest ]
 
+read_rows : (ns : List ℕ) (rows : List Row) → flat_map (λ (row : Row). if contains ns row.number then read_by None row else row ∷ []) rows ≡ rows
+read_rows ns [] = refl
+read_rows ns (r ∷ rows) =
+    let rest = read_rows ns rows in
+    elim (contains ns r.number) as (λ b. cond b (r ∷ []) (r ∷ []) ++ flat_map (λ (row : Row). if contains ns row.number then read_by None row else row ∷ []) rows ≡ r ∷ rows)
+    [ true ↦ ap (λ w. r ∷ w) rest | false ↦ ap (λ w. r ∷ w) rest ]
+
+-- a read without a transaction changes nothing
+pub read_leaves : (st : State) (s id : ℕ) (q : Search) (ns : List ℕ) → is_plain q ≡ true → st ≡ accepted st s id ns (ask.Read q)
+read_leaves st s id q ns plain = rw (no_timeout q plain, no_search_txn q plain) (ap (λ (rows : List Row). record st { rows = rows }) (sym (read_rows ns st.rows)))
+
 -- a take without a transaction removes the rows that it was given
-pub take_removes : (st : State) (s id : ℕ) (q : Search) (ns : List ℕ) → is_built (ask.Take q) ≡ true → without st ns ≡ accepted st s id ns (ask.Take q)
+pub take_removes : (st : State) (s id : ℕ) (q : Search) (ns : List ℕ) → is_plain q ≡ true → without st ns ≡ accepted st s id ns (ask.Take q)
 take_removes st s id q ns built = rw (no_timeout q built, no_search_txn q built) (ap (λ (rows : List Row). record st { rows = rows }) (sym (given_rows ns st.rows)))
 
 -- ---- the outboxes stand apart
@@ -95,13 +106,19 @@ pub refusal_apart : (st : State) (boxes : List Outbox) (s id : ℕ) (a : Ask) �
 unfolding refusal
 refusal_apart st boxes s id (ask.Declare d) h = refl
 refusal_apart st boxes s id (ask.Write w) h = refl
+refusal_apart st boxes s id (ask.Read q) h = refl
 refusal_apart st boxes s id (ask.Take q) h = refl
+refusal_apart st boxes s id ask.Spaces h = refl
+refusal_apart st boxes s id ask.Bye h = refl
 refusal_apart st boxes s id _ h = cc (h)
 
 pub accepted_apart : (st : State) (boxes : List Outbox) (s id : ℕ) (ns : List ℕ) (a : Ask) → is_built a ≡ true → accepted (record st { outboxes = boxes }) s id ns a ≡ record (accepted st s id ns a) { outboxes = boxes }
 accepted_apart st boxes s id ns (ask.Declare d) h = refl
 accepted_apart st boxes s id ns (ask.Write w) h = rw (no_txn w h) refl
+accepted_apart st boxes s id ns (ask.Read q) h = rw (no_search_txn q h, no_timeout q h) refl
 accepted_apart st boxes s id ns (ask.Take q) h = rw (no_search_txn q h, no_timeout q h) refl
+accepted_apart st boxes s id ns ask.Spaces h = refl
+accepted_apart st boxes s id ns ask.Bye h = refl
 accepted_apart st boxes s id ns _ h = cc (h)
 
 pub next_refused : (st : State) (s : ℕ) (a : Request) (ns : List ℕ) (r : Refusal) (y : Reply) (boxes : List Outbox) → refusal st s a.id a.ask ≡ Some r → said st (step.Ask s a ns) ≡ (s, y) ∷ [] → boxes ≡ post st.outboxes (s, y)

@@ -27,7 +27,9 @@ use Rattle.jsp_reply.specs.declared.refusal.Refusal.{Refusal}
 use Rattle.jsp_reply.specs.declared.reply.Reply.{Reply}
 use Rattle.jsp_reply.specs.declared.reply.Reply.TheVariants as says
 use Rattle.jsp_model.specs.Answers.{said}
-use Rattle.jsp_model.specs.Refusals.{refusal, caller_of, joined_otherwise, rows_asked}
+use Rattle.jsp_model.specs.declared.state.Form.{Form}
+use Rattle.jsp_types.specs.Classes.{first_that}
+use Rattle.jsp_model.specs.Refusals.{refusal, caller_of, joined_otherwise, rows_asked, rows_tests, one_row}
 use Rattle.jsp_model.specs.Steps.{is_legal, has_its_rows, is_choice, is_fault, outbox_of}
 use Rattle.jsp_model.specs.Image.{IsWithinLimits}
 use Rattle.jsp_audit.specs.Outboxes.{answers_in, answers_at}
@@ -80,16 +82,15 @@ unfolding is_legal
 not_decided st x true h = rw h.commits refl
 not_decided st x false h = rw h.transactions refl
 
--- ---- the rows of a take
+-- ---- the rows of a request
 
 template_clear : (st : State) (t : Option Raw) → list_any (is_unknown st.classes) (filter_map (λ o. o) (t ∷ [])) ≡ false → list_any (is_bad st.classes) (filter_map (λ o. o) (t ∷ [])) ≡ false → template_fault st.classes t ≡ None
 template_clear st None u b = refl
 template_clear st (Some raw) u b = rw ((or_parts (is_unknown st.classes raw) false u).0, (or_parts (is_bad st.classes raw) false b).0) refl
 
--- the template of a take that isn't refused has no fault
-pub take_good : (st : State) (s id : ℕ) (q : Search) → refusal st s id (ask.Take q) ≡ None → template_fault st.classes q.template ≡ None
-unfolding refusal
-take_good st s id q h =
+-- the template of a request that isn't refused has no fault
+pub search_good : (f : Form) (st : State) (s id : ℕ) (q : Search) → first_that (rows_tests st s id (one_row f q)) ≡ None → template_fault st.classes q.template ≡ None
+search_good f st s id q h =
     let waits = first_none (is_waiting st s id) _ _ h in
     let space = first_none (is_none (space_named st q.space)) _ _ waits.1 in
     let living = first_none (option_map_or (λ x. not (is_living st x)) (caller_of q.txn) false) _ _ space.1 in

@@ -17,12 +17,14 @@ use Rattle.jsp_wire.specs.declared.ask.Ask.TheVariants as ask
 use Rattle.jsp_wire.specs.declared.ask.Write.{Write}
 use Rattle.jsp_wire.specs.declared.ask.Search.{Search}
 use Rattle.jsp_wire.specs.declared.ask.Declare.{Declare}
-use Rattle.jsp_wire.specs.Limits.{is_built, is_positive, is_zero}
+use Rattle.jsp_wire.specs.Limits.{is_built, is_plain, is_positive, is_zero}
 use Rattle.jsp_reply.specs.declared.refusal.Refusal.{Refusal}
 use Rattle.jsp_reply.specs.declared.refusal.Refusal.TheVariants as refusals
 use Rattle.jsp_model.specs.declared.state.State.{State}
 use Rattle.jsp_model.specs.Lookup.{is_waiting, space_named}
-use Rattle.jsp_model.specs.Refusals.{kinded, refusal, granted, ms_of, place_of, rows_in, is_used_up, class_asked}
+use Rattle.jsp_model.specs.declared.state.Form.{Form}
+use Rattle.jsp_model.specs.declared.state.Form.TheVariants as form
+use Rattle.jsp_model.specs.Refusals.{kinded, refusal, rows_tests, one_row, granted, ms_of, place_of, rows_in, is_used_up, class_asked}
 use Rattle.jsp_audit.specs.Faults.{refusal_of_class, refusal_of_entry}
 
 none_of : {A : Type 0} (o : Option A) → is_none o ≡ true → o ≡ None
@@ -47,10 +49,10 @@ zero_of (pos (suc n)) h = absurd (no_suc n h)
     no_suc n h = grind (arith, h)
 zero_of (negsuc n) h = cc (h)
 
-pub no_timeout : (q : Search) → is_built (ask.Take q) ≡ true → q.timeout ≡ pos 0
+pub no_timeout : (q : Search) → is_plain q ≡ true → q.timeout ≡ pos 0
 no_timeout q h = zero_of q.timeout (and_parts (is_zero q.timeout) (is_none q.txn) h).0
 
-pub no_search_txn : (q : Search) → is_built (ask.Take q) ≡ true → q.txn ≡ None
+pub no_search_txn : (q : Search) → is_plain q ≡ true → q.txn ≡ None
 no_search_txn q h = none_of q.txn (and_parts (is_zero q.timeout) (is_none q.txn) h).1
 
 -- ---- writes
@@ -104,15 +106,13 @@ write_accepted st s id n w built free space fault room left =
     let drawn : nat_lt (2 ^ 62 + 1) (st.next_number + 1) ≡ false = le-ltb (2 ^ 62 + 1) (st.next_number + 1) (omega arith) in
     rw (free, space, no_txn w built, good.0, good.1, is_granted w built, fits, drawn) refl
 
--- ---- takes
+-- ---- reads and takes
 
-pub take_waiting : (st : State) (s id : ℕ) (q : Search) → is_waiting st s id ≡ true → Some refusals.IdInUse ≡ refusal st s id (ask.Take q)
-unfolding refusal
-take_waiting st s id q waits = rw waits refl
+pub search_waiting : (f : Form) (st : State) (s id : ℕ) (q : Search) → is_waiting st s id ≡ true → Some refusals.IdInUse ≡ first_that (rows_tests st s id (one_row f q))
+search_waiting f st s id q waits = rw waits refl
 
-pub take_unknown_space : (st : State) (s id : ℕ) (q : Search) → is_waiting st s id ≡ false → space_named st q.space ≡ None → Some refusals.UnknownSpace ≡ refusal st s id (ask.Take q)
-unfolding refusal
-take_unknown_space st s id q free none = rw (free, none) refl
+pub search_unknown_space : (f : Form) (st : State) (s id : ℕ) (q : Search) → is_waiting st s id ≡ false → space_named st q.space ≡ None → Some refusals.UnknownSpace ≡ first_that (rows_tests st s id (one_row f q))
+search_unknown_space f st s id q free none = rw (free, none) refl
 
 template_first : (st : State) (t : Option Raw) (f : EntryFault) (rest : Option Refusal) → template_fault st.classes t ≡ Some f → Some (refusal_of_entry f) ≡ cond (list_any (is_unknown st.classes) (filter_map (λ o. o) (t ∷ []))) (Some refusals.UnknownClass) (cond (list_any (is_bad st.classes) (filter_map (λ o. o) (t ∷ []))) (Some refusals.BadEntry) rest)
 template_first st None f rest h = cc (h)
@@ -124,15 +124,32 @@ template_good st (Some raw) h =
     let good = no_fault (is_unknown st.classes raw) (is_bad st.classes raw) h in
     (rw good.0 refl, rw good.1 refl)
 
-pub take_bad_template : (st : State) (s id n : ℕ) (q : Search) (f : EntryFault) → is_built (ask.Take q) ≡ true → is_waiting st s id ≡ false → space_named st q.space ≡ Some n → template_fault st.classes q.template ≡ Some f → Some (refusal_of_entry f) ≡ refusal st s id (ask.Take q)
-unfolding refusal
-take_bad_template st s id n q f built free space fault = rw (free, space, no_search_txn q built) (template_first st q.template f _ fault)
+pub search_bad_template : (f : Form) (st : State) (s id n : ℕ) (q : Search) (e : EntryFault) → is_plain q ≡ true → is_waiting st s id ≡ false → space_named st q.space ≡ Some n → template_fault st.classes q.template ≡ Some e → Some (refusal_of_entry e) ≡ first_that (rows_tests st s id (one_row f q))
+search_bad_template f st s id n q e plain free space fault = rw (free, space, no_search_txn q plain) (template_first st q.template e _ fault)
 
-pub take_accepted : (st : State) (s id n : ℕ) (q : Search) → is_built (ask.Take q) ≡ true → is_waiting st s id ≡ false → space_named st q.space ≡ Some n → template_fault st.classes q.template ≡ None → None ≡ refusal st s id (ask.Take q)
-unfolding refusal
-take_accepted st s id n q built free space fault =
+pub search_accepted : (f : Form) (st : State) (s id n : ℕ) (q : Search) → is_plain q ≡ true → is_waiting st s id ≡ false → space_named st q.space ≡ Some n → template_fault st.classes q.template ≡ None → None ≡ first_that (rows_tests st s id (one_row f q))
+search_accepted f st s id n q built free space fault =
     let good = template_good st q.template fault in
     rw (free, space, no_search_txn q built, good.0, good.1, no_timeout q built) refl
+
+-- reads and takes are refused alike
+pub read_refused : (st : State) (s id : ℕ) (q : Search) → first_that (rows_tests st s id (one_row form.Read q)) ≡ refusal st s id (ask.Read q)
+unfolding refusal
+read_refused st s id q = refl
+
+pub take_refused : (st : State) (s id : ℕ) (q : Search) → first_that (rows_tests st s id (one_row form.Take q)) ≡ refusal st s id (ask.Take q)
+unfolding refusal
+take_refused st s id q = refl
+
+-- ---- operations that nothing but their id speaks against
+
+pub spaces_refused : (st : State) (s id : ℕ) → cond (is_waiting st s id) (Some refusals.IdInUse) None ≡ refusal st s id ask.Spaces
+unfolding refusal
+spaces_refused st s id = refl
+
+pub bye_refused : (st : State) (s id : ℕ) → cond (is_waiting st s id) (Some refusals.IdInUse) None ≡ refusal st s id ask.Bye
+unfolding refusal
+bye_refused st s id = refl
 
 -- ---- declarations
 

@@ -1,23 +1,27 @@
 //! What a request is answered.
-ghost use Rattle.std.specs.Prelude.{◌≡◌, ◌∷◌, [], List, ℕ, true, IfOk, IfSome, IsTrue, find};
+ghost use Rattle.std.specs.Prelude.{◌≡◌, ◌∷◌, [], List, ℕ, true, false, IfOk, IfSome, IsTrue, find};
+ghost use Rattle.jsp_audit.specs.Spaces.{names_of as names_in};
 ghost use Rattle.std.specs.Option.{option_copied};
 ghost use Rattle.jsp_types.specs.Matching.{is_small};
-ghost use Rattle.jsp_wire.specs.Limits.{is_built};
+ghost use Rattle.jsp_wire.specs.Limits.{is_built, is_plain};
 ghost use Rattle.jsp_wire.specs.declared.ask.Ask.TheVariants as ask;
 ghost use Rattle.jsp_model.specs.declared.step.Step.TheVariants as step;
 ghost use Rattle.jsp_model.specs.Lookup.{is_open, contains as has};
-ghost use Rattle.jsp_model.specs.Refusals.{refusal as refusal_of};
-ghost use Rattle.jsp_model.specs.Answers.{said as said_in, answer as answer_of};
+ghost use Rattle.jsp_model.specs.declared.state.Form.{Form};
+ghost use Rattle.jsp_model.specs.Refusals.{refusal as refusal_of, one_row};
+ghost use Rattle.jsp_model.specs.Answers.{said as said_in, answer as answer_of, rows_answer, is_many};
 ghost use Rattle.jsp_model.specs.Image.{IsWithinLimits};
 
 use crate::lookup::{contains, granted};
-use jsp_model::{Row, State};
+use jsp_model::{Row, Space, State};
 use jsp_reply::{Refusal, Reply, Said};
-use jsp_types::{Entry, NoMemory};
+use jsp_types::{Entry, Items, NoMemory, Text};
 use jsp_wire::{Ask, Asked, Search, Write};
+use std::alloc::Global;
 
 /// The answer to a request: its refusal, or what it is answered at once.
 pub(crate) fn reply(
+    alloc: Global,
     state: &State,
     session: u64,
     asked: &Asked,
@@ -35,12 +39,13 @@ pub(crate) fn reply(
             id: Some(id),
             refusal,
         })),
-        None => accepted(state, session, id, asked.ask(), rows),
+        None => accepted(alloc, state, session, id, asked.ask(), rows),
     }
 }
 
 /// The answer to a request that isn't refused.
 pub(crate) fn accepted(
+    alloc: Global,
     state: &State,
     session: u64,
     id: u64,
@@ -54,7 +59,13 @@ pub(crate) fn accepted(
     match ask {
         Ask::Declare(_) => Ok(Said::new(Reply::Done { id })),
         Ask::Write(write) => Ok(leased(state, session, id, write)),
+        Ask::Read(search) => shown(state, session, id, search, rows),
         Ask::Take(search) => shown(state, session, id, search, rows),
+        Ask::Spaces => {
+            let names = names_of(alloc, state.spaces.as_slice())?;
+            Ok(Said::new(Reply::Names { id, names }))
+        }
+        Ask::Bye => Ok(Said::new(Reply::Done { id })),
         _ => unreachable!(),
     }
 }
@@ -69,6 +80,7 @@ fn leased(state: &State, session: u64, id: u64, write: &Write) -> Said
     })
 }
 
+/// The answer to a read or take that doesn't wait: the entry of the row that it was given.
 fn shown(
     state: &State,
     session: u64,
@@ -77,8 +89,8 @@ fn shown(
     rows: &[u64],
 ) -> Result<Said, NoMemory>
     requires limits { IsWithinLimits state.now }
-    requires built { IsTrue (is_built (ask.Take search.now)) }
-    ensures { IfOk result (λ y. answer_of state.now session id rows.now (ask.Take search.now) ≡ y ∷ []) }
+    requires plain { IsTrue (is_plain search.now) }
+    ensures { IfOk result (λ y. (f : Form) → is_many f ≡ false → rows_answer state.now session id rows.now (one_row f search.now) ≡ y ∷ []) }
 {
     match first_of(state, rows) {
         None => Ok(Said::new(Reply::Nothing { id })),
@@ -87,6 +99,17 @@ fn shown(
             Ok(Said::new(Reply::Shown { id, entry }))
         }
     }
+}
+
+/// The names of spaces, in their order.
+fn names_of(alloc: Global, spaces: &[Space]) -> Result<Items<Text>, NoMemory>
+    ensures { IfOk result (λ v. v ≡ names_in spaces.now) }
+{
+    let mut names = Items::new(alloc);
+    'spaces: for space in spaces {
+        names.push(space.name.clone()?)?;
+    }
+    Ok(names)
 }
 
 fn first_of<'a>(state: &'a State, rows: &[u64]) -> Option<&'a Row>

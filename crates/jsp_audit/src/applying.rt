@@ -96,7 +96,7 @@ pub fn said(alloc: Global, image: &Image, step: &Step) -> Result<Option<(u64, Sa
             rows,
         } => {
             let refused = refusal(alloc, state, *session, asked.id(), asked.ask())?;
-            let said = reply(state, *session, asked, rows.as_slice(), refused)?;
+            let said = reply(alloc, state, *session, asked, rows.as_slice(), refused)?;
             Ok(Some((*session, said)))
         }
         Step::Fault {

@@ -1,11 +1,10 @@
 //! Which steps are legal.
 ghost use Rattle.std.specs.Prelude.{◌≡◌, ◌==◌, ◌&&◌, ◌^◌, IfOk, IsTrue, nat_lt, nat_le, length, true, None};
-ghost use Rattle.jsp_wire.specs.Limits.{is_built};
-ghost use Rattle.jsp_wire.specs.declared.ask.Ask.TheVariants as ask;
+ghost use Rattle.jsp_types.specs.Classes.{first_that};
+ghost use Rattle.jsp_wire.specs.Limits.{is_plain};
 ghost use Rattle.jsp_model.specs.declared.step.Step.TheVariants as step;
 ghost use Rattle.jsp_model.specs.Due.{rank_number as place_of_rank, is_item as is_same_item};
-ghost use Rattle.jsp_model.specs.Refusals.{refusal as refusal_of, rows_asked, as_blocked, one_row};
-ghost use Rattle.jsp_model.specs.declared.state.Form.TheVariants.{Take};
+ghost use Rattle.jsp_model.specs.Refusals.{refusal as refusal_of, rows_tests, rows_asked, as_blocked, one_row};
 ghost use Rattle.jsp_model.specs.Steps.{is_legal as legal, has_its_rows as has_rows, is_choice as chooses, is_fault as is_a_fault, outbox_of};
 ghost use Rattle.jsp_model.specs.Image.{IsWithinLimits};
 
@@ -14,7 +13,7 @@ use crate::lookup::is_open;
 use crate::offers::{first_offered, may_be_given};
 use crate::outboxes::place_of;
 use crate::refusals::refusal;
-use jsp_model::{Image, Item, State, Step};
+use jsp_model::{Form, Image, Item, State, Step};
 use jsp_reply::Refusal;
 use jsp_types::NoMemory;
 use jsp_wire::{Ask, Asked, Search};
@@ -144,6 +143,7 @@ fn may_ask(
 
 /// Whether the rows of a request's step are a choice, where it is for rows and isn't refused, and
 /// else none.
+#[tactic(auto, unfolding(jsp_model::specs::Refusals::refusal))]
 fn has_its_rows(
     alloc: Global,
     state: &State,
@@ -156,7 +156,12 @@ fn has_its_rows(
     ensures { IfOk result (λ b. b ≡ has_rows state.now session asked.now.id rows.now refused (rows_asked asked.now.ask)) }
 {
     match (refused, asked.ask()) {
-        (None, Ask::Take(search)) => is_choice(alloc, state, session, asked.id(), search, rows),
+        (None, Ask::Read(search)) => {
+            is_choice(alloc, state, session, asked.id(), Form::Read, search, rows)
+        }
+        (None, Ask::Take(search)) => {
+            is_choice(alloc, state, session, asked.id(), Form::Take, search, rows)
+        }
         _ => Ok(rows.is_empty()),
     }
 }
@@ -166,16 +171,17 @@ fn is_choice(
     state: &State,
     session: u64,
     id: u64,
+    form: Form,
     search: &Search,
     rows: &[u64],
 ) -> Result<bool, NoMemory>
-    requires built { IsTrue (is_built (ask.Take search.now)) }
-    requires accepted { refusal_of state.now session id (ask.Take search.now) ≡ None }
-    ensures { IfOk result (λ b. b ≡ chooses state.now (as_blocked state.now session id (one_row Take search.now)) rows.now) }
+    requires plain { IsTrue (is_plain search.now) }
+    requires accepted { first_that (rows_tests state.now session id (one_row form search.now)) ≡ None }
+    ensures { IfOk result (λ b. b ≡ chooses state.now (as_blocked state.now session id (one_row form search.now)) rows.now) }
 {
     match rows {
-        [] => Ok(first_offered(alloc, state, search)?.is_none()),
-        [number] => may_be_given(alloc, state, search, *number),
+        [] => Ok(first_offered(alloc, state, form, search)?.is_none()),
+        [number] => may_be_given(alloc, state, form, search, *number),
         _ => Ok(false),
     }
 }

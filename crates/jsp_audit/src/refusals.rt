@@ -1,9 +1,13 @@
 //! Why a request is refused: the first refusal that applies.
-ghost use Rattle.std.specs.Prelude.{◌≡◌, ◌∷◌, ◌++◌, [], IfOk, OnOk, IsTrue, is_none};
+ghost use Rattle.std.specs.Prelude.{◌≡◌, ◌∷◌, ◌++◌, [], IfOk, OnOk, IsTrue, Some, None, is_none, if◌then◌else◌};
 ghost use Rattle.std.specs.List.{list_any};
-ghost use Rattle.jsp_wire.specs.Limits.{is_built};
+ghost use Rattle.jsp_wire.specs.Limits.{is_built, is_plain};
 ghost use Rattle.jsp_wire.specs.declared.ask.Ask.TheVariants as ask;
-ghost use Rattle.jsp_model.specs.Refusals.{refusal as refusal_of, class_asked as class_of, kinded as fields_with_kind};
+ghost use Rattle.jsp_types.specs.Classes.{first_that};
+ghost use Rattle.jsp_model.specs.declared.state.Form.{Form};
+ghost use Rattle.jsp_model.specs.Refusals.{refusal as refusal_of, class_asked as class_of, kinded as fields_with_kind, rows_tests, one_row};
+ghost use Rattle.jsp_model.specs.Lookup.{is_waiting as waits};
+ghost use Rattle.jsp_reply.specs.declared.refusal.Refusal.TheVariants.{IdInUse};
 ghost use Rattle.jsp_audit.specs.Faults.{refusal_of_class, refusal_of_entry};
 
 use crate::lookup::{is_waiting, rows_in, space_named};
@@ -29,7 +33,10 @@ pub fn refusal(
     match ask {
         Ask::Declare(declare) => refuse_declare(alloc, state, session, id, declare),
         Ask::Write(write) => Ok(refuse_write(state, session, id, write)),
-        Ask::Take(search) => Ok(refuse_take(state, session, id, search)),
+        Ask::Read(search) => Ok(refuse_search(state, session, id, search)),
+        Ask::Take(search) => Ok(refuse_search(state, session, id, search)),
+        Ask::Spaces => Ok(refuse_waiting(state, session, id)),
+        Ask::Bye => Ok(refuse_waiting(state, session, id)),
         _ => unreachable!(),
     }
 }
@@ -147,9 +154,10 @@ fn refuse_write(state: &State, session: u64, id: u64, write: &Write) -> Option<R
     None
 }
 
-fn refuse_take(state: &State, session: u64, id: u64, search: &Search) -> Option<Refusal>
-    requires { IsTrue (is_built (ask.Take search.now)) }
-    ensures { result ≡ refusal_of state.now session id (ask.Take search.now) }
+/// Why a read or take that doesn't wait is refused.
+fn refuse_search(state: &State, session: u64, id: u64, search: &Search) -> Option<Refusal>
+    requires { IsTrue (is_plain search.now) }
+    ensures { (f : Form) → result ≡ first_that (rows_tests state.now session id (one_row f search.now)) }
 {
     if is_waiting(state, session, id) {
         return Some(Refusal::IdInUse);
@@ -161,4 +169,14 @@ fn refuse_take(state: &State, session: u64, id: u64, search: &Search) -> Option<
         None => None,
         Some(fault) => Some(entry_refusal(fault)),
     }
+}
+
+/// Why an operation is refused that nothing but its id speaks against.
+fn refuse_waiting(state: &State, session: u64, id: u64) -> Option<Refusal>
+    ensures { result ≡ if waits state.now session id then Some IdInUse else None }
+{
+    if is_waiting(state, session, id) {
+        return Some(Refusal::IdInUse);
+    }
+    None
 }

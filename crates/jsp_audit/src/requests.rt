@@ -1,7 +1,7 @@
 //! What a request changes.
 ghost use Rattle.std.specs.Prelude.{◌≡◌, true, OnOk, OnErr, IfOk, IsTrue, None};
 ghost use Rattle.jsp_types.specs.Matching.{is_small, entry_fault, entry_of as entry_asked};
-ghost use Rattle.jsp_wire.specs.Limits.{is_built};
+ghost use Rattle.jsp_wire.specs.Limits.{is_built, is_plain};
 ghost use Rattle.jsp_wire.specs.declared.ask.Ask.TheVariants as ask;
 ghost use Rattle.jsp_model.specs.declared.step.Step.TheVariants as step;
 ghost use Rattle.jsp_model.specs.Lookup.{is_open};
@@ -17,6 +17,7 @@ use crate::lookup::{granted, space_named};
 use crate::outboxes::{Posted, post, take_back};
 use crate::refusals::{class_asked, refusal};
 use crate::rows::remove_rows;
+use crate::sessions::close;
 use jsp_model::{Row, State};
 use jsp_types::{Entry, Items, NoMemory, check_entry};
 use jsp_wire::{Ask, Asked, Declare, Search, Write};
@@ -37,7 +38,7 @@ pub(crate) fn make_ask(
     ensures limits { IsWithinLimits state.new }
 {
     let refused = refusal(alloc, state, session, asked.id(), asked.ask())?;
-    let said = reply(state, session, asked, rows, refused)?;
+    let said = reply(alloc, state, session, asked, rows, refused)?;
     let posted = post(alloc, &mut state.outboxes, session, said)?;
     match refused {
         Some(_) => Ok(()),
@@ -89,8 +90,14 @@ fn accept(
     match ask {
         Ask::Declare(declare) => accept_declare(alloc, state, session, id, declare, rows),
         Ask::Write(write) => accept_write(alloc, state, session, id, write, rows),
+        Ask::Read(_) => Ok(()),
         Ask::Take(search) => {
             accept_take(state, session, id, search, rows);
+            Ok(())
+        }
+        Ask::Spaces => Ok(()),
+        Ask::Bye => {
+            close(state, session);
             Ok(())
         }
         _ => unreachable!(),
@@ -170,7 +177,7 @@ fn entry_of(alloc: Global, state: &State, write: &Write) -> Result<Entry, NoMemo
 
 fn accept_take(state: &mut State, session: u64, id: u64, search: &Search, rows: &[u64])
     requires limits { IsWithinLimits state.old }
-    requires built { IsTrue (is_built (ask.Take search.now)) }
+    requires plain { IsTrue (is_plain search.now) }
     ensures made { state.new ≡ accepted state.old session id rows.now (ask.Take search.now) }
     ensures limits { IsWithinLimits state.new }
 {

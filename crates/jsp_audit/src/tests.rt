@@ -2,10 +2,10 @@ use crate::{
     Replayed, apply, due, empty_image, first_offered, hand_out, is_legal, is_open, refusal, replay,
     replay_from, said, shut, waiting,
 };
-use jsp_model::{Config, Image, State, Step};
+use jsp_model::{Config, Form, Image, State, Step};
 use jsp_reply::{Refusal, Said, text};
 use jsp_types::{Items, Text, template_fault};
-use jsp_wire::{Ask, Asked, read_ask};
+use jsp_wire::{Ask, Asked, Search, read_ask};
 use std::test::Fail;
 
 const DECLARE: &str = r#"{"id":1,"op":"declare","class":"Job","parent":null,"fields":{}}"#;
@@ -19,6 +19,12 @@ const WRITE_TO_NO_SPACE: &str =
 const TAKE_FROM_A: &str = r#"{"id":4,"op":"take","space":"a","template":null,"timeout":0}"#;
 
 const TAKE_FROM_B: &str = r#"{"id":5,"op":"take","space":"b","template":null,"timeout":0}"#;
+
+const READ_FROM_B: &str = r#"{"id":6,"op":"read","space":"b","template":null,"timeout":0}"#;
+
+const SPACES: &str = r#"{"id":7,"op":"spaces"}"#;
+
+const BYE: &str = r#"{"id":8,"op":"bye"}"#;
 
 // A house of the spaces a and b.
 fn config(rt: &HostRuntime) -> Result<Config, Fail> {
@@ -114,11 +120,21 @@ fn answers(rt: &HostRuntime, payload: &str) -> Result<Vec<u8>, Fail> {
 
 fn offered(rt: &HostRuntime, state: &State, asked: &Asked) -> Result<Option<u64>, Fail> {
     match asked.ask() {
-        Ask::Take(search) => match template_fault(&state.classes, search.template.as_ref()) {
-            None => Ok(first_offered(rt.alloc(), state, search)?),
-            Some(_) => Ok(None),
-        },
+        Ask::Read(search) => first_for(rt, state, Form::Read, search),
+        Ask::Take(search) => first_for(rt, state, Form::Take, search),
         _ => Ok(None),
+    }
+}
+
+fn first_for(
+    rt: &HostRuntime,
+    state: &State,
+    form: Form,
+    search: &Search,
+) -> Result<Option<u64>, Fail> {
+    match template_fault(&state.classes, search.template.as_ref()) {
+        None => Ok(first_offered(rt.alloc(), state, form, search)?),
+        Some(_) => Ok(None),
     }
 }
 
@@ -228,6 +244,34 @@ fn a_take_is_offered_a_row_of_its_space(rt: HostRuntime) -> Result<(), Fail> {
     let image = written(&rt)?;
     assert_eq!(rt; offered_to(&rt, image.state(), TAKE_FROM_A)?, None);
     assert_eq!(rt; offered_to(&rt, image.state(), TAKE_FROM_B)?, Some(1));
+    Ok(())
+}
+
+#[test]
+fn a_read_is_offered_a_row_of_its_space(rt: HostRuntime) -> Result<(), Fail> {
+    let image = written(&rt)?;
+    assert_eq!(rt; offered_to(&rt, image.state(), READ_FROM_B)?, Some(1));
+    Ok(())
+}
+
+#[test]
+fn the_names_of_the_spaces_are_told(rt: HostRuntime) -> Result<(), Fail> {
+    let wanted = "{\"id\":7,\"ok\":[\"a\",\"b\"]}".as_bytes();
+    assert_eq!(rt; answers(&rt, SPACES)?.as_slice(), wanted);
+    Ok(())
+}
+
+// Whether the session is open after it asked this, and how many answers wait for it.
+fn leaves(rt: &HostRuntime, payload: &str) -> Result<(bool, u64), Fail> {
+    let steps = asking(rt, payload)?;
+    let image = after(rt, steps.as_slice())?;
+    Ok((is_open(image.state(), 1), waiting(image.state(), 1)))
+}
+
+#[test]
+fn a_goodbye_closes_its_session_and_is_answered(rt: HostRuntime) -> Result<(), Fail> {
+    assert_eq!(rt; leaves(&rt, BYE)?, (false, 2));
+    assert_eq!(rt; leaves(&rt, SPACES)?, (true, 2));
     Ok(())
 }
 

@@ -7,13 +7,14 @@ use Rattle.std.proofs.lemmas.Bool.{and_parts, and_from, and_left, le-ltb, eqb-tr
 use Rattle.jsp_wire.specs.declared.ask.Ask.{Ask}
 use Rattle.jsp_wire.specs.declared.ask.Ask.TheVariants as ask
 use Rattle.jsp_wire.specs.declared.ask.Search.{Search}
-use Rattle.jsp_wire.specs.Limits.{is_built, is_zero}
+use Rattle.jsp_wire.specs.Limits.{is_built, is_plain, is_zero}
 use Rattle.jsp_reply.specs.declared.refusal.Refusal.{Refusal}
 use Rattle.jsp_model.specs.declared.state.State.{State}
 use Rattle.jsp_model.specs.declared.state.Row.{Row}
 use Rattle.jsp_model.specs.declared.state.Blocked.{Blocked}
 use Rattle.jsp_model.specs.declared.state.Joined.{Joined}
 use Rattle.jsp_model.specs.declared.state.Transaction.{Transaction}
+use Rattle.jsp_model.specs.declared.state.Form.{Form}
 use Rattle.jsp_model.specs.declared.state.Form.TheVariants as form
 use Rattle.jsp_model.specs.declared.step.Step.{Step}
 use Rattle.jsp_model.specs.declared.step.Step.TheVariants as step
@@ -82,17 +83,17 @@ cast_keeps : (st : State) (x : ℕ) (j : Option Joined) → NothingWaits st → 
 cast_keeps st x None h = h
 cast_keeps st x (Some j) h = record { blocked = h.blocked; registrations = h.registrations }
 
--- a take that asks for no time doesn't wait
+-- a request that asks for no time doesn't wait
 at_once : (timeout : ℤ) → is_zero timeout ≡ true → nat_lt 0 (named timeout) ≡ false
 at_once (pos n) h = le-ltb 0 n (omega (arith, eqb-true n 0 h))
 at_once (negsuc n) h = refl
 
-take_keeps : (st : State) (s id : ℕ) (q : Search) (ns : List ℕ) → NothingWaits st → is_zero q.timeout ≡ true → NothingWaits (give_or_block st s id (one_row form.Take q) ns)
-take_keeps st s id q ns h zero =
-    let r = one_row form.Take q in
+rows_keep : (st : State) (s id : ℕ) (f : Form) (q : Search) (ns : List ℕ) → NothingWaits st → is_plain q ≡ true → NothingWaits (give_or_block st s id (one_row f q) ns)
+rows_keep st s id f q ns h plain =
+    let r = one_row f q in
     let b = as_blocked st s id r in
     let joined = join_keeps st b.transaction b.space h in
-    let no : would_block st s id r ≡ false = and_left (nat_lt 0 (named q.timeout)) (must_wait st b) (at_once q.timeout zero) in
+    let no : would_block st s id r ≡ false = and_left (nat_lt 0 (named q.timeout)) (must_wait st b) (at_once q.timeout (and_parts _ _ plain).0) in
     either (would_block st s id r) _ (give (join st b.transaction b.space) b ns)
     (λ e. absurd (cc (e, no)))
     (λ e. record { blocked = joined.blocked; registrations = joined.registrations })
@@ -106,7 +107,10 @@ accepted_keeps st s id ns (ask.Write w) h built =
     let row = new_row joined v w.entry in
     owe_keeps row.writer (record joined { rows = joined.rows ++ row ∷ []; next_number = joined.next_number + 1 }) row
     (record { blocked = kept.blocked; registrations = kept.registrations })
-accepted_keeps st s id ns (ask.Take q) h built = take_keeps st s id q ns h (and_parts _ _ built).0
+accepted_keeps st s id ns (ask.Read q) h built = rows_keep st s id form.Read q ns h built
+accepted_keeps st s id ns (ask.Take q) h built = rows_keep st s id form.Take q ns h built
+accepted_keeps st s id ns ask.Spaces h built = h
+accepted_keeps st s id ns ask.Bye h built = close_keeps st s h
 accepted_keeps st s id ns _ h built = cc (built)
 
 asked_keeps : (st : State) (s id : ℕ) (ns : List ℕ) (a : Ask) (r : Option Refusal) → NothingWaits st → is_built a ≡ true → NothingWaits (asked st s id ns a r)

@@ -1,18 +1,19 @@
 //! The rows that the step of a request gives.
-ghost use Rattle.std.specs.Prelude.{◌≡◌, [], ◌∷◌, true, None, IfOk, IsTrue, option_to_list};
-ghost use Rattle.jsp_wire.specs.Limits.{is_built};
-ghost use Rattle.jsp_wire.specs.declared.ask.Ask.TheVariants as ask;
-ghost use Rattle.jsp_model.specs.Refusals.{refusal as refusal_of, rows_asked};
+ghost use Rattle.std.specs.Prelude.{◌≡◌, [], ◌∷◌, true, None, Some, IfOk, IsTrue, option_to_list};
+ghost use Rattle.jsp_types.specs.Classes.{first_that};
+ghost use Rattle.jsp_wire.specs.Limits.{is_plain};
+ghost use Rattle.jsp_model.specs.Refusals.{refusal as refusal_of, rows_asked, rows_tests, one_row};
 ghost use Rattle.jsp_model.specs.Steps.{has_its_rows};
 
 use jsp_audit::{first_offered, refusal};
-use jsp_model::State;
+use jsp_model::{Form, State};
 use jsp_types::{Items, NoMemory};
 use jsp_wire::{Ask, Asked, Search};
 use std::alloc::Global;
 
-/// The rows that the request is given: of those that a take may be given the one with the least
-/// number, and none where there is none, or where the request is refused or isn't for rows.
+/// The rows that the request is given: of those that it may be given the one with the least number,
+/// and none where there is none, or where the request is refused or isn't for rows.
+#[tactic(auto, unfolding(jsp_model::specs::Refusals::refusal))]
 pub(crate) fn choose(
     alloc: Global,
     state: &State,
@@ -23,23 +24,29 @@ pub(crate) fn choose(
 {
     let refused = refusal(alloc, state, session, asked.id(), asked.ask())?;
     match (refused, asked.ask()) {
-        (None, Ask::Take(search)) => choose_to_take(alloc, state, session, asked.id(), search),
+        (None, Ask::Read(search)) => {
+            choose_first(alloc, state, session, asked.id(), Form::Read, search)
+        }
+        (None, Ask::Take(search)) => {
+            choose_first(alloc, state, session, asked.id(), Form::Take, search)
+        }
         _ => Ok(Items::new(alloc)),
     }
 }
 
-fn choose_to_take(
+fn choose_first(
     alloc: Global,
     state: &State,
     session: u64,
     id: u64,
+    form: Form,
     search: &Search,
 ) -> Result<Items<u64>, NoMemory>
-    requires built { IsTrue (is_built (ask.Take search.now)) }
-    requires accepted { refusal_of state.now session id (ask.Take search.now) ≡ None }
-    ensures { IfOk result (λ ns. has_its_rows state.now session id ns None (rows_asked (ask.Take search.now)) ≡ true) }
+    requires plain { IsTrue (is_plain search.now) }
+    requires accepted { first_that (rows_tests state.now session id (one_row form search.now)) ≡ None }
+    ensures { IfOk result (λ ns. has_its_rows state.now session id ns None (Some (one_row form search.now)) ≡ true) }
 {
-    let first = first_offered(alloc, state, search)?;
+    let first = first_offered(alloc, state, form, search)?;
     one_or_none(alloc, first)
 }
 

@@ -7,7 +7,7 @@ use Rattle.jsp_types.specs.declared.value.Kind.TheVariants as kind
 use Rattle.jsp_types.specs.declared.value.Value.TheVariants as value
 use Rattle.jsp_wire.specs.declared.ask.Ask.TheVariants as ask
 use Rattle.jsp_wire.specs.Parts.{raw_of}
-use Rattle.jsp_wire.specs.Operations.{declare_of, write_of, take_of, ask_of}
+use Rattle.jsp_wire.specs.Operations.{declare_of, write_of, search_of, plain_of, ask_of}
 use Rattle.jsp_wire.specs.Reading.{request, bad_json, bad_request, request_of, reading}
 
 unknown_key : reading (codes "{\"id\":5,\"op\":\"declare\",\"class\":\"J\",\"fields\":{},\"x\":1}") ≡ bad_request (Some 5)
@@ -32,11 +32,19 @@ a_write : reading (codes "{\"id\":2,\"op\":\"write\",\"space\":\"a\",\"entry\":{
 unfolding serde_json_on_literals is_utf8 chars encode_utf8 reading request_of ask_of write_of raw_of
 a_write = refl
 
+the_spaces : reading (codes "{\"id\":3,\"op\":\"spaces\"}") ≡ request (record { id = 3; ask = ask.Spaces })
+unfolding serde_json_on_literals is_utf8 chars encode_utf8 reading request_of ask_of plain_of
+the_spaces = refl
+
+a_goodbye_of_more : reading (codes "{\"id\":3,\"op\":\"bye\",\"x\":1}") ≡ bad_request (Some 3)
+unfolding serde_json_on_literals is_utf8 chars encode_utf8 reading request_of ask_of plain_of
+a_goodbye_of_more = refl
+
 a_take : reading (codes "{\"id\":3,\"op\":\"take\",\"space\":\"a\",\"template\":{\"class\":\"J\",\"fields\":{\"k\":1}},\"timeout\":0,\"txn\":null}")
     ≡ request (record { id = 3; ask = ask.Take (record { space = codes "a"; template = Some (record { class = codes "J"; fields = (codes "k", value.Int (pos 1)) ∷ [] }); timeout = pos 0; txn = None }) })
-unfolding serde_json_on_literals is_utf8 chars encode_utf8 reading request_of ask_of take_of raw_of
+unfolding serde_json_on_literals is_utf8 chars encode_utf8 reading request_of ask_of search_of raw_of
 a_take = refl
 
 waiting_is_not_built : reading (codes "{\"id\":3,\"op\":\"take\",\"space\":\"a\",\"template\":null,\"timeout\":1}") ≡ bad_request (Some 3)
-unfolding serde_json_on_literals is_utf8 chars encode_utf8 reading request_of ask_of take_of
+unfolding serde_json_on_literals is_utf8 chars encode_utf8 reading request_of ask_of search_of
 waiting_is_not_built = refl

@@ -3,6 +3,7 @@ use Rattle.std.specs.Prelude.{ℕ, ℤ, pos, negsuc, ◌^◌, Bool, true, false,
 use Rattle.jsp_wire.specs.declared.ask.Ask.{Ask}
 use Rattle.jsp_wire.specs.declared.ask.Ask.TheVariants as ask
 use Rattle.jsp_wire.specs.declared.ask.Request.{Request}
+use Rattle.jsp_wire.specs.declared.ask.Search.{Search}
 
 abbrev pub is_between : ℕ → ℕ → ℕ → Bool
 is_between low high n = nat_le low n && nat_le n high
@@ -25,12 +26,19 @@ abbrev pub is_zero : ℤ → Bool
 is_zero (pos n) = n == 0
 is_zero (negsuc n) = false
 
--- What is built by now; it grows with the program, and the rest is refused as no request. Classes have no parent,
--- leases are positive, nothing waits, and there are no transactions.
+-- a request for rows that doesn't wait, and is under no transaction
+abbrev pub is_plain : Search → Bool
+is_plain q = is_zero q.timeout && is_none q.txn
+
+-- What is built by now; it grows with the program, and the rest is refused as no request. Leases are positive,
+-- nothing waits, and there are no transactions.
 abbrev pub is_built : Ask → Bool
-is_built (ask.Declare d) = is_none d.parent
+is_built (ask.Declare d) = true
 is_built (ask.Write w) = is_positive w.lease && is_none w.txn
-is_built (ask.Take q) = is_zero q.timeout && is_none q.txn
+is_built (ask.Read q) = is_plain q
+is_built (ask.Take q) = is_plain q
+is_built ask.Spaces = true
+is_built ask.Bye = true
 is_built _ = false
 
 abbrev pub is_within_limits : Request → Bool

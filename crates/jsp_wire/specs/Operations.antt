@@ -1,9 +1,10 @@
 -- The operations, each with the keys of its object.
-use Rattle.std.specs.Prelude.{ℕ, List, [], ◌∷◌, if◌then◌else◌, Option, Some, None, codes}
+use Rattle.std.specs.Prelude.{ℕ, List, [], ◌∷◌, if◌then◌else◌, Option, Some, None, option_map, codes}
 use Rattle.std.specs.Str.{bytes_eq}
 use Rattle.serde_json.specs.Data.{Data}
 use Rattle.jsp_wire.specs.declared.ask.Ask.{Ask}
 use Rattle.jsp_wire.specs.declared.ask.Ask.TheVariants as ask
+use Rattle.jsp_wire.specs.declared.ask.Search.{Search}
 use Rattle.jsp_wire.specs.Parts.{◌>>=◌, only, text_at, number_at, optional_text_at, optional_number_at, kinds_at, entry_at, template_at}
 
 unfoldable pub declare_of : Data → Option Ask
@@ -23,19 +24,29 @@ write_of d = do
   txn ← optional_number_at (codes "txn") d
   Some (ask.Write (record { space = space; entry = entry; lease = lease; txn = txn }))
 
-unfoldable pub take_of : Data → Option Ask
-take_of d = do
+-- a request for rows
+unfoldable pub search_of : Data → Option Search
+search_of d = do
   _ ← only (codes "id" ∷ codes "op" ∷ codes "space" ∷ codes "template" ∷ codes "timeout" ∷ codes "txn" ∷ []) d
   space ← text_at (codes "space") d
   template ← template_at (codes "template") d
   timeout ← number_at (codes "timeout") d
   txn ← optional_number_at (codes "txn") d
-  Some (ask.Take (record { space = space; template = template; timeout = timeout; txn = txn }))
+  Some (record { space = space; template = template; timeout = timeout; txn = txn })
+
+-- an operation without keys of its own
+unfoldable pub plain_of : Ask → Data → Option Ask
+plain_of a d = do
+  _ ← only (codes "id" ∷ codes "op" ∷ []) d
+  Some a
 
 -- the operation of that name, by the keys of the object
 unfoldable pub ask_of : List ℕ → Data → Option Ask
 ask_of name d =
     if bytes_eq name (codes "declare") then declare_of d
     else (if bytes_eq name (codes "write") then write_of d
-    else (if bytes_eq name (codes "take") then take_of d
-    else None))
+    else (if bytes_eq name (codes "read") then option_map ask.Read (search_of d)
+    else (if bytes_eq name (codes "take") then option_map ask.Take (search_of d)
+    else (if bytes_eq name (codes "spaces") then plain_of ask.Spaces d
+    else (if bytes_eq name (codes "bye") then plain_of ask.Bye d
+    else None)))))

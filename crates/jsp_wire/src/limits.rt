@@ -1,8 +1,8 @@
 //! The limits of a request, and which operations are built.
 ghost use Rattle.std.specs.Prelude.{◌≡◌};
-ghost use Rattle.jsp_wire.specs.Limits.{is_between, has_fitting_parts, is_built, is_within_limits};
+ghost use Rattle.jsp_wire.specs.Limits.{is_between, has_fitting_parts, is_plain, is_built, is_within_limits};
 
-use crate::{Ask, Request};
+use crate::{Ask, Request, Search};
 
 fn is_between(low: usize, high: usize, n: usize) -> bool
     ensures { result ≡ is_between low high n }
@@ -32,11 +32,20 @@ fn is_built(ask: &Ask) -> bool
     ensures { result ≡ is_built ask.now }
 {
     match ask {
-        Ask::Declare(class) => class.parent.is_none(),
+        Ask::Declare(_) => true,
         Ask::Write(write) => 0 < write.lease && write.txn.is_none(),
-        Ask::Take(search) => search.timeout == 0 && search.txn.is_none(),
+        Ask::Read(search) => is_plain(search),
+        Ask::Take(search) => is_plain(search),
+        Ask::Spaces => true,
+        Ask::Bye => true,
         _ => false,
     }
+}
+
+fn is_plain(search: &Search) -> bool
+    ensures { result ≡ is_plain search.now }
+{
+    search.timeout == 0 && search.txn.is_none()
 }
 
 /// Whether the request keeps its limits and its operation is built.

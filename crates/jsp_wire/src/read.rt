@@ -2,7 +2,7 @@
 ghost use Rattle.std.specs.Prelude.{Some};
 ghost use Rattle.serde_json.specs.View.{view};
 ghost use Rattle.jsp_wire.specs.Parts.{Gives};
-ghost use Rattle.jsp_wire.specs.Operations.{declare_of, write_of, take_of, ask_of};
+ghost use Rattle.jsp_wire.specs.Operations.{declare_of, write_of, search_of, plain_of, ask_of};
 ghost use Rattle.jsp_wire.specs.Reading.{Answers, Parses, json_of, request_of, reading_of, reading};
 
 use crate::fault::{Flaw, WireFault};
@@ -46,21 +46,30 @@ fn write(alloc: Global, json: &Json) -> Result<Ask, Flaw>
     }))
 }
 
-#[tactic(auto, unfolding(crate::specs::Operations::take_of))]
-fn take(alloc: Global, json: &Json) -> Result<Ask, Flaw>
-    ensures { Gives result (take_of (view json.now)) }
+#[tactic(auto, unfolding(crate::specs::Operations::search_of))]
+fn search(alloc: Global, json: &Json) -> Result<Search, Flaw>
+    ensures { Gives result (search_of (view json.now)) }
 {
     only(json, &["id", "op", "space", "template", "timeout", "txn"])?;
     let space = text_at(alloc, json, "space")?;
     let template = template_at(alloc, json, "template")?;
     let timeout = number_at(json, "timeout")?;
     let txn = optional_number_at(json, "txn")?;
-    Ok(Ask::Take(Search {
+    Ok(Search {
         space,
         template,
         timeout,
         txn,
-    }))
+    })
+}
+
+/// An operation without keys of its own.
+#[tactic(auto, unfolding(crate::specs::Operations::plain_of))]
+fn plain(json: &Json, ask: Ask) -> Result<Ask, Flaw>
+    ensures { Gives result (plain_of ask (view json.now)) }
+{
+    only(json, &["id", "op"])?;
+    Ok(ask)
 }
 
 #[tactic(auto, unfolding(crate::specs::Operations::ask_of))]
@@ -70,7 +79,10 @@ fn ask(alloc: Global, name: &str, json: &Json) -> Result<Ask, Flaw>
     match name {
         "declare" => declare(alloc, json),
         "write" => write(alloc, json),
-        "take" => take(alloc, json),
+        "read" => Ok(Ask::Read(search(alloc, json)?)),
+        "take" => Ok(Ask::Take(search(alloc, json)?)),
+        "spaces" => plain(json, Ask::Spaces),
+        "bye" => plain(json, Ask::Bye),
         _ => Err(Flaw::Refused),
     }
 }

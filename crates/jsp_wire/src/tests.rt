@@ -32,13 +32,20 @@ fn asks(rt: &HostRuntime, ask: &Ask) -> Result<String, Fail> {
     match ask {
         Ask::Declare(class) => declares(rt, class),
         Ask::Write(write) => writes(rt, write),
-        Ask::Take(search) => takes(rt, search),
+        Ask::Read(search) => searches(rt, "read", search),
+        Ask::Take(search) => searches(rt, "take", search),
+        Ask::Spaces => words(rt, "spaces"),
+        Ask::Bye => words(rt, "bye"),
         _ => words(rt, "another"),
     }
 }
 
 fn declares(rt: &HostRuntime, class: &Declare) -> Result<String, Fail> {
     let mut text = format!(in rt.alloc(); "declare {}", class.class.as_str())?;
+    if let Some(parent) = &class.parent {
+        text.push_str(" under ")?;
+        text.push_str(parent.as_str())?;
+    }
     for (name, kind) in class.fields.as_slice() {
         text.push_str(" ")?;
         text.push_str(name.as_str())?;
@@ -65,9 +72,9 @@ fn writes(rt: &HostRuntime, write: &Write) -> Result<String, Fail> {
     )?)
 }
 
-fn takes(rt: &HostRuntime, search: &Search) -> Result<String, Fail> {
+fn searches(rt: &HostRuntime, verb: &str, search: &Search) -> Result<String, Fail> {
     let like = template(rt, &search.template)?;
-    Ok(format!(in rt.alloc(); "take {} {like}", search.space.as_str())?)
+    Ok(format!(in rt.alloc(); "{verb} {} {like}", search.space.as_str())?)
 }
 
 fn template(rt: &HostRuntime, template: &Option<Raw>) -> Result<String, Fail> {
@@ -122,6 +129,10 @@ fn requests_that_are_built(rt: HostRuntime) -> Result<(), Fail> {
                 "0 declare ",
             ),
             (
+                r#"{"id":1,"op":"declare","class":"Rush","parent":"Job","fields":{"n":"int"}}"#,
+                "1 declare Rush under Job n:int",
+            ),
+            (
                 r#"{"id":2,"op":"write","space":"a","entry":{"class":"Job","fields":{"n":null,"k":-7,"b":true,"a":"x\"\u00e9"}},"lease":1000}"#,
                 "2 write a Job a='x\"é' b=true k=-7 n=null for 1000",
             ),
@@ -145,6 +156,12 @@ fn requests_that_are_built(rt: HostRuntime) -> Result<(), Fail> {
                 r#"{"id":5,"id":6,"op":"take","space":"a","space":"b","template":null,"timeout":0}"#,
                 "6 take b any",
             ),
+            (
+                r#"{"id":7,"op":"read","space":"a","template":{"class":"Job","fields":{"k":1}},"timeout":0}"#,
+                "7 read a Job k=1",
+            ),
+            (r#"{"id":8,"op":"spaces"}"#, "8 spaces"),
+            (r#"{"op":"bye","id":9}"#, "9 bye"),
         ],
     )?;
     assert_eq!(rt; differing.as_str(), "");
@@ -201,14 +218,12 @@ fn ids_that_are_none(rt: HostRuntime) -> Result<(), Fail> {
 }
 
 #[test]
-fn keys_and_values_that_are_refused(rt: HostRuntime) -> Result<(), Fail> {
+fn operations_and_keys_that_are_refused(rt: HostRuntime) -> Result<(), Fail> {
     let differing = differing(
         &rt,
         &[
             (r#"{"id":5}"#, "5 refused 2"),
-            (r#"{"id":5,"op":7}"#, "5 refused 2"),
             (r#"{"id":5,"op":"Take"}"#, "5 refused 2"),
-            // A key that isn't in the table, and one that is missing.
             (
                 r#"{"id":5,"op":"take","space":"a","template":null,"timeout":0,"x":1}"#,
                 "5 refused 2",
@@ -230,7 +245,24 @@ fn keys_and_values_that_are_refused(rt: HostRuntime) -> Result<(), Fail> {
                 "5 refused 2",
             ),
             (r#"{"id":5,"op":"declare","class":"J"}"#, "5 refused 2"),
-            // Values of another kind.
+            (r#"{"id":5,"op":"spaces","x":1}"#, "5 refused 2"),
+            (r#"{"id":5,"op":"bye","space":"a"}"#, "5 refused 2"),
+            (
+                r#"{"id":5,"op":"read","space":"a","template":null,"timeout":0,"lease":1}"#,
+                "5 refused 2",
+            ),
+        ],
+    )?;
+    assert_eq!(rt; differing.as_str(), "");
+    Ok(())
+}
+
+#[test]
+fn values_of_another_kind(rt: HostRuntime) -> Result<(), Fail> {
+    let differing = differing(
+        &rt,
+        &[
+            (r#"{"id":5,"op":7}"#, "5 refused 2"),
             (
                 r#"{"id":5,"op":"take","space":1,"template":null,"timeout":0}"#,
                 "5 refused 2",
@@ -275,6 +307,10 @@ fn keys_and_values_that_are_refused(rt: HostRuntime) -> Result<(), Fail> {
                 r#"{"id":5,"op":"declare","class":"J","parent":1,"fields":{}}"#,
                 "5 refused 2",
             ),
+            (
+                r#"{"id":5,"op":"read","space":null,"template":null,"timeout":0}"#,
+                "5 refused 2",
+            ),
         ],
     )?;
     assert_eq!(rt; differing.as_str(), "");
@@ -286,10 +322,6 @@ fn what_is_not_built_yet(rt: HostRuntime) -> Result<(), Fail> {
     let differing = differing(
         &rt,
         &[
-            (
-                r#"{"id":5,"op":"declare","class":"J","parent":"P","fields":{}}"#,
-                "5 refused 2",
-            ),
             (
                 r#"{"id":5,"op":"write","space":"a","entry":{"class":"J","fields":{}},"lease":0}"#,
                 "5 refused 2",
@@ -311,7 +343,11 @@ fn what_is_not_built_yet(rt: HostRuntime) -> Result<(), Fail> {
                 "5 refused 2",
             ),
             (
-                r#"{"id":5,"op":"read","space":"a","template":null,"timeout":0}"#,
+                r#"{"id":5,"op":"read","space":"a","template":null,"timeout":1}"#,
+                "5 refused 2",
+            ),
+            (
+                r#"{"id":5,"op":"read_if","space":"a","template":null,"timeout":0}"#,
                 "5 refused 2",
             ),
             (r#"{"id":5,"op":"cancel","lease":1}"#, "5 refused 2"),
@@ -320,8 +356,6 @@ fn what_is_not_built_yet(rt: HostRuntime) -> Result<(), Fail> {
                 "5 refused 2",
             ),
             (r#"{"id":5,"op":"txn","lease":1}"#, "5 refused 2"),
-            (r#"{"id":5,"op":"spaces"}"#, "5 refused 2"),
-            (r#"{"id":5,"op":"bye"}"#, "5 refused 2"),
             (r#"{"id":5,"op":"hello","version":2}"#, "5 refused 2"),
         ],
     )?;

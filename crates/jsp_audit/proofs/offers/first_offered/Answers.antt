@@ -8,4 +8,4 @@ use Rattle.jsp_audit.proofs.offers.first_offered.Goals as goal
 pub returns : goal.returns
 returns c =
     (rw (c.place_in-space.ensures, c.in_ok-template.ensures) at c.first_number.ensures)
-    ∙ (first_is (λ (r : Row). r.number) _ c.args.state.now.rows ∙ ap (λ ns. slice_get ns 0) (sym (offered_is c.args.state.now c.args.search.now c.requires.built)))
+    ∙ (first_is (λ (r : Row). r.number) _ c.args.state.now.rows ∙ ap (λ ns. slice_get ns 0) (sym (offered_is c.args.state.now c.args.form c.args.search.now c.requires.plain)))
