@@ -1,6 +1,6 @@
 -- What a request changes that isn't refused, of the operations that are built.
 use Rattle.std.proofs.Common.{◌≡◌, ℕ, ℤ, zero, suc, pos, ◌+◌, ◌<◌, ◌≤◌, ◌^◌, Bool, true, false, nat_lt, nat_le, List, [], ◌∷◌, ◌++◌, length, Option, Some, None, is_none, refl, ap, sym, ◌∙◌, subst, arith, negsuc, lit≤}
-use Rattle.std.specs.Prelude.{◌&&◌, ◌||◌, not, map, filter, flat_map, cond, fold, if◌then◌else◌, ◌==◌, unwrap_or, bytes_eq}
+use Rattle.std.specs.Prelude.{◌&&◌, ◌||◌, not, map, filter, flat_map, cond, fold, if◌then◌else◌, ◌==◌, unwrap_or, bytes_eq, is_some}
 use Rattle.std.specs.List.{list_any, list_all, position_or_len}
 use Rattle.std.specs.Option.{option_map_or}
 use Rattle.std.proofs.lemmas.Bool.{and_parts, ltb-false, ltb-true, lt-ltb, le-leb}
@@ -23,9 +23,12 @@ use Rattle.jsp_model.specs.declared.state.Row.{Row}
 use Rattle.jsp_model.specs.declared.state.Outbox.{Outbox}
 use Rattle.jsp_model.specs.declared.state.Form.TheVariants as form
 use Rattle.jsp_model.specs.declared.step.Step.TheVariants as step
-use Rattle.jsp_model.specs.Lookup.{is_open, contains, is_waiting, is_living, is_voting, space_named}
-use Rattle.jsp_model.specs.Refusals.{refusal, one_row, one_entry, as_blocked, class_asked, rows_in, place_of, ms_of, granted, caller_of, joined_otherwise, is_used_up}
-use Rattle.jsp_model.specs.Changes.{accepted, new_row, read_by, taken_by}
+use Rattle.jsp_model.specs.Lookup.{is_open, contains, is_waiting, is_living, is_voting, space_named, rank_of, named}
+use Rattle.jsp_lease.specs.Granted.{ms_of, granted}
+use Rattle.jsp_model.specs.Refusals.{refusal, one_row, one_entry, as_blocked, class_asked, rows_in, place_of, caller_of, joined_otherwise, is_used_up, number_tests, renew_tests}
+use Rattle.jsp_lease.specs.declared.item.Rank.{Rank}
+use Rattle.jsp_lease.specs.declared.item.Rank.TheVariants as rank
+use Rattle.jsp_model.specs.Changes.{accepted, new_row, read_by, taken_by, extend, remove, renew, cancel, renew_one, cancel_one}
 use Rattle.jsp_model.specs.Answers.{said}
 use Rattle.jsp_model.specs.Steps.{next, post}
 use Rattle.jsp_audit.specs.Rows.{without}
@@ -100,6 +103,15 @@ read_leaves st s id q ns plain = rw (no_timeout q plain, no_search_txn q plain) 
 pub take_removes : (st : State) (s id : ℕ) (q : Search) (ns : List ℕ) → is_plain q ≡ true → without st ns ≡ accepted st s id ns (ask.Take q)
 take_removes st s id q ns built = rw (no_timeout q built, no_search_txn q built) (ap (λ (rows : List Row). record st { rows = rows }) (sym (given_rows ns st.rows)))
 
+-- a renewal or cancellation that isn't refused may be made
+pub renew_good : (st : State) (s id : ℕ) (lease ms : ℤ) → refusal st s id (ask.Renew lease ms) ≡ None → first_that (renew_tests st lease ms) ≡ None
+unfolding refusal
+renew_good st s id lease ms h = (first_none (is_waiting st s id) _ _ h).1
+
+pub cancel_good : (st : State) (s id : ℕ) (lease : ℤ) → refusal st s id (ask.Cancel lease) ≡ None → first_that (number_tests st lease) ≡ None
+unfolding refusal
+cancel_good st s id lease h = (first_none (is_waiting st s id) _ _ h).1
+
 -- ---- the outboxes stand apart
 
 pub refusal_apart : (st : State) (boxes : List Outbox) (s id : ℕ) (a : Ask) → is_built a ≡ true → refusal (record st { outboxes = boxes }) s id a ≡ refusal st s id a
@@ -108,15 +120,57 @@ refusal_apart st boxes s id (ask.Declare d) h = refl
 refusal_apart st boxes s id (ask.Write w) h = refl
 refusal_apart st boxes s id (ask.Read q) h = refl
 refusal_apart st boxes s id (ask.Take q) h = refl
+refusal_apart st boxes s id (ask.Renew lease ms) h = refl
+refusal_apart st boxes s id (ask.Cancel lease) h = refl
+refusal_apart st boxes s id (ask.RenewAll leases) h = refl
+refusal_apart st boxes s id (ask.CancelAll leases) h = refl
 refusal_apart st boxes s id ask.Spaces h = refl
 refusal_apart st boxes s id ask.Bye h = refl
 refusal_apart st boxes s id _ h = cc (h)
+
+-- the same state with other outboxes
+abbrev with_boxes : List Outbox → State → State
+with_boxes boxes st = record st { outboxes = boxes }
+
+extend_apart : (st : State) (boxes : List Outbox) (end : ℕ) (r : Option Rank) (n : ℕ) → option_map_or (λ (r : Rank). extend (with_boxes boxes st) end r n) r (with_boxes boxes st) ≡ with_boxes boxes (option_map_or (λ (r : Rank). extend st end r n) r st)
+extend_apart st boxes end None n = refl
+extend_apart st boxes end (Some rank.Entry) n = refl
+extend_apart st boxes end (Some rank.Registration) n = refl
+extend_apart st boxes end (Some rank.Transaction) n = refl
+extend_apart st boxes end (Some rank.Blocked) n = refl
+extend_apart st boxes end (Some rank.MatchSet) n = refl
+
+renew_apart : (st : State) (boxes : List Outbox) (lease ms : ℤ) → renew (with_boxes boxes st) lease ms ≡ with_boxes boxes (renew st lease ms)
+renew_apart st boxes lease ms = extend_apart st boxes (st.time + ms_of ms) (rank_of st (named lease)) (named lease)
+
+remove_apart : (st : State) (boxes : List Outbox) (r : Option Rank) (n : ℕ) → option_map_or (λ (r : Rank). remove (with_boxes boxes st) r n) r (with_boxes boxes st) ≡ with_boxes boxes (option_map_or (λ (r : Rank). remove st r n) r st)
+remove_apart st boxes None n = refl
+remove_apart st boxes (Some rank.Entry) n = refl
+remove_apart st boxes (Some rank.Registration) n = refl
+remove_apart st boxes (Some rank.Transaction) n = refl
+remove_apart st boxes (Some rank.Blocked) n = refl
+remove_apart st boxes (Some rank.MatchSet) n = refl
+
+cancel_apart : (st : State) (boxes : List Outbox) (lease : ℤ) → cancel (with_boxes boxes st) lease ≡ with_boxes boxes (cancel st lease)
+cancel_apart st boxes lease = remove_apart st boxes (rank_of st (named lease)) (named lease)
+
+either_apart : {now : State} (b : Bool) (st then' : State) (boxes : List Outbox) → now ≡ with_boxes boxes then' → cond b (with_boxes boxes st) now ≡ with_boxes boxes (cond b st then')
+either_apart true st then' boxes h = refl
+either_apart false st then' boxes h = h
+
+all_apart : {X : Type 0} (one : State → X → State) → ((st : State) (boxes : List Outbox) (x : X) → one (with_boxes boxes st) x ≡ with_boxes boxes (one st x)) → (st : State) (boxes : List Outbox) (xs : List X) → fold one (with_boxes boxes st) xs ≡ with_boxes boxes (fold one st xs)
+all_apart one apart st boxes [] = refl
+all_apart one apart st boxes (x ∷ xs) = ap (λ (w : State). fold one w xs) (apart st boxes x) ∙ all_apart one apart (one st x) boxes xs
 
 pub accepted_apart : (st : State) (boxes : List Outbox) (s id : ℕ) (ns : List ℕ) (a : Ask) → is_built a ≡ true → accepted (record st { outboxes = boxes }) s id ns a ≡ record (accepted st s id ns a) { outboxes = boxes }
 accepted_apart st boxes s id ns (ask.Declare d) h = refl
 accepted_apart st boxes s id ns (ask.Write w) h = rw (no_txn w h) refl
 accepted_apart st boxes s id ns (ask.Read q) h = rw (no_search_txn q h, no_timeout q h) refl
 accepted_apart st boxes s id ns (ask.Take q) h = rw (no_search_txn q h, no_timeout q h) refl
+accepted_apart st boxes s id ns (ask.Renew lease ms) h = renew_apart st boxes lease ms
+accepted_apart st boxes s id ns (ask.Cancel lease) h = cancel_apart st boxes lease
+accepted_apart st boxes s id ns (ask.RenewAll leases) h = all_apart renew_one (λ st boxes l. either_apart (is_some (first_that (renew_tests st l.0 l.1))) st (renew st l.0 l.1) boxes (renew_apart st boxes l.0 l.1)) st boxes leases
+accepted_apart st boxes s id ns (ask.CancelAll leases) h = all_apart cancel_one (λ st boxes lease. either_apart (is_some (first_that (number_tests st lease))) st (cancel st lease) boxes (cancel_apart st boxes lease)) st boxes leases
 accepted_apart st boxes s id ns ask.Spaces h = refl
 accepted_apart st boxes s id ns ask.Bye h = refl
 accepted_apart st boxes s id ns _ h = cc (h)
@@ -134,7 +188,7 @@ next_accepted st now s a ns y boxes built is says posted made =
 
 -- ---- limits
 
-ms_small : (l : ℤ) → ms_of l ≤ 3600000
+pub ms_small : (l : ℤ) → ms_of l ≤ 3600000
 ms_small (pos n) = omega arith
 ms_small (negsuc zero) = lit≤ tt
 ms_small (negsuc (suc n)) = omega arith

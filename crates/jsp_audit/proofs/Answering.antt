@@ -20,6 +20,7 @@ use Rattle.jsp_model.specs.Refusals.{refusal, one_row, as_blocked}
 use Rattle.jsp_model.specs.Answers.{said, answer, rows_answer, is_many, told_others, answer_with}
 use Rattle.jsp_types.specs.Classes.{is_name, is_name_byte}
 use Rattle.jsp_model.specs.Config.{are_space_names, are_different}
+use Rattle.jsp_model.specs.Image.{IsWithinLimits}
 use Rattle.jsp_audit.proofs.Refusing.{no_timeout}
 
 pub none_passes : {X : Type 0} (p : X → Bool) (xs : List X) → find p xs ≡ None → filter p xs ≡ []
@@ -49,25 +50,32 @@ shown_one f st s id q ns row plain one found =
     rw (no_timeout q plain) (rw (first.1, one) refl)
 
 -- nobody else is told
-none_told : (st : State) (a : Ask) → is_built a ≡ true → told_others st a ≡ []
-none_told st (ask.Declare d) h = refl
-none_told st (ask.Write w) h = refl
-none_told st (ask.Read q) h = refl
-none_told st (ask.Take q) h = refl
-none_told st ask.Spaces h = refl
-none_told st ask.Bye h = refl
-none_told st _ h = cc (h)
+none_told : (st : State) (a : Ask) → IsWithinLimits st → is_built a ≡ true → told_others st a ≡ []
+none_told st (ask.Declare d) limits h = refl
+none_told st (ask.Write w) limits h = refl
+none_told st (ask.Read q) limits h = refl
+none_told st (ask.Take q) limits h = refl
+none_told st (ask.Renew lease ms) limits h = refl
+none_told st (ask.Cancel lease) limits h = rw limits.blocked refl
+none_told st (ask.RenewAll leases) limits h = refl
+none_told st (ask.CancelAll leases) limits h = rw limits.blocked refl
+none_told st ask.Spaces limits h = refl
+none_told st ask.Bye limits h = refl
+none_told st _ limits h = cc (h)
 
 pub said_refused : (st : State) (s : ℕ) (a : Request) (ns : List ℕ) (r : Refusal) → is_open st s ≡ true → refusal st s a.id a.ask ≡ Some r → said st (step.Ask s a ns) ≡ (s, says.Refused (Some a.id) r) ∷ []
 unfolding said
 said_refused st s a ns r open' is = rw (is, open') refl
 
-pub said_accepted : (st : State) (s : ℕ) (a : Request) (ns : List ℕ) (y : Reply) → is_open st s ≡ true → is_built a.ask ≡ true → refusal st s a.id a.ask ≡ None → answer st s a.id ns a.ask ≡ y ∷ [] → said st (step.Ask s a ns) ≡ (s, y) ∷ []
+pub said_accepted : (st : State) (s : ℕ) (a : Request) (ns : List ℕ) (y : Reply) → IsWithinLimits st → is_open st s ≡ true → is_built a.ask ≡ true → refusal st s a.id a.ask ≡ None → answer st s a.id ns a.ask ≡ y ∷ [] → said st (step.Ask s a ns) ≡ (s, y) ∷ []
 unfolding said
-said_accepted st s a ns y open' built is reply = rw (is, reply, none_told st a.ask built) (rw open' refl)
+said_accepted st s a ns y limits open' built is reply = rw (is, reply, none_told st a.ask limits built) (rw open' refl)
 
 pub built_of : (a : Request) → is_within_limits a ≡ true → is_built a.ask ≡ true
 built_of a h = (and_parts (nat_lt a.id (2 ^ 63) && has_fitting_parts a.ask) (is_built a.ask) h).1
+
+pub fits_of : (a : Request) → is_within_limits a ≡ true → has_fitting_parts a.ask ≡ true
+fits_of a h = (and_parts (nat_lt a.id (2 ^ 63)) (has_fitting_parts a.ask) (and_parts (nat_lt a.id (2 ^ 63) && has_fitting_parts a.ask) (is_built a.ask) h).0).1
 
 -- ---- the names of the spaces
 

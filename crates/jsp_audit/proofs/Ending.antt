@@ -7,8 +7,9 @@ use Rattle.std.proofs.lemmas.Bool.{le-leb}
 use Rattle.jsp_model.specs.declared.state.State.{State}
 use Rattle.jsp_model.specs.declared.state.Row.{Row}
 use Rattle.jsp_model.specs.declared.state.Transaction.{Transaction}
-use Rattle.jsp_model.specs.declared.step.Item.{Item}
-use Rattle.jsp_model.specs.Due.{due, items, first_item, is_before}
+use Rattle.jsp_lease.specs.declared.item.Item.{Item}
+use Rattle.jsp_lease.specs.Due.{first_item, is_before}
+use Rattle.jsp_model.specs.Due.{due, items}
 use Rattle.jsp_model.specs.Image.{IsWithinLimits}
 use Rattle.jsp_audit.specs.Time.{row_item}
 

@@ -14,15 +14,16 @@ use Rattle.jsp_wire.specs.declared.ask.Search.{Search}
 use Rattle.jsp_model.specs.declared.state.State.{State}
 use Rattle.jsp_model.specs.declared.state.Blocked.{Blocked}
 use Rattle.jsp_model.specs.declared.state.Outbox.{Outbox}
-use Rattle.jsp_model.specs.declared.step.Item.{Item}
+use Rattle.jsp_lease.specs.declared.item.Item.{Item}
 use Rattle.jsp_model.specs.declared.step.Step.TheVariants as step
 use Rattle.jsp_model.specs.Lookup.{is_open, is_living, is_voting, is_waiting, space_named, contains}
 use Rattle.jsp_model.specs.Sight.{available}
 use Rattle.jsp_model.specs.Quiet.{is_quiet, are_quiet}
-use Rattle.jsp_model.specs.Due.{due, is_item, first_item, is_before, rank_number}
+use Rattle.jsp_lease.specs.Due.{is_item, first_item, is_before, rank_number}
+use Rattle.jsp_model.specs.Due.{due}
 use Rattle.jsp_model.specs.Touches.{touches}
-use Rattle.jsp_model.specs.declared.step.Rank.{Rank}
-use Rattle.jsp_model.specs.declared.step.Rank.TheVariants as rank
+use Rattle.jsp_lease.specs.declared.item.Rank.{Rank}
+use Rattle.jsp_lease.specs.declared.item.Rank.TheVariants as rank
 use Rattle.jsp_reply.specs.declared.refusal.Refusal.{Refusal}
 use Rattle.jsp_reply.specs.declared.reply.Reply.{Reply}
 use Rattle.jsp_reply.specs.declared.reply.Reply.TheVariants as says

@@ -17,14 +17,15 @@ use Rattle.jsp_wire.specs.declared.ask.Ask.TheVariants as ask
 use Rattle.jsp_wire.specs.declared.ask.Write.{Write}
 use Rattle.jsp_wire.specs.declared.ask.Search.{Search}
 use Rattle.jsp_wire.specs.declared.ask.Declare.{Declare}
-use Rattle.jsp_wire.specs.Limits.{is_built, is_plain, is_positive, is_zero}
+use Rattle.jsp_wire.specs.Limits.{is_built, is_plain, is_zero}
 use Rattle.jsp_reply.specs.declared.refusal.Refusal.{Refusal}
 use Rattle.jsp_reply.specs.declared.refusal.Refusal.TheVariants as refusals
 use Rattle.jsp_model.specs.declared.state.State.{State}
 use Rattle.jsp_model.specs.Lookup.{is_waiting, space_named}
 use Rattle.jsp_model.specs.declared.state.Form.{Form}
 use Rattle.jsp_model.specs.declared.state.Form.TheVariants as form
-use Rattle.jsp_model.specs.Refusals.{kinded, refusal, rows_tests, one_row, granted, ms_of, place_of, rows_in, is_used_up, class_asked}
+use Rattle.jsp_lease.specs.Granted.{granted, ms_of}
+use Rattle.jsp_model.specs.Refusals.{kinded, refusal, rows_tests, one_row, place_of, rows_in, is_used_up, class_asked}
 use Rattle.jsp_audit.specs.Faults.{refusal_of_class, refusal_of_entry}
 
 none_of : {A : Type 0} (o : Option A) → is_none o ≡ true → o ≡ None
@@ -32,14 +33,7 @@ none_of None h = refl
 none_of (Some x) h = cc (h)
 
 pub no_txn : (w : Write) → is_built (ask.Write w) ≡ true → w.txn ≡ None
-no_txn w h = none_of w.txn (and_parts (is_positive w.lease) (is_none w.txn) h).1
-
-positive : (l : ℤ) → is_positive l ≡ true → granted l ≡ Some (ms_of l)
-positive (pos n) h = refl
-positive (negsuc n) h = cc (h)
-
-pub is_granted : (w : Write) → is_built (ask.Write w) ≡ true → granted w.lease ≡ Some (ms_of w.lease)
-is_granted w h = positive w.lease (and_parts (is_positive w.lease) (is_none w.txn) h).0
+no_txn w h = none_of w.txn h
 
 zero_of : (t : ℤ) → is_zero t ≡ true → t ≡ pos 0
 zero_of (pos zero) h = refl
@@ -83,28 +77,34 @@ pub write_bad_entry : (st : State) (s id n : ℕ) (w : Write) (f : EntryFault) �
 unfolding refusal
 write_bad_entry st s id n w f built free space fault = rw (free, space, no_txn w built) (entry_first (is_unknown st.classes w.entry) (is_bad st.classes w.entry) f _ fault)
 
-pub write_full : (st : State) (s id n : ℕ) (w : Write) → is_built (ask.Write w) ≡ true → is_waiting st s id ≡ false → space_named st w.space ≡ Some n → entry_fault st.classes w.entry ≡ None → 65536 ≤ rows_in st n → Some refusals.SpaceFull ≡ refusal st s id (ask.Write w)
+pub write_bad_lease : (st : State) (s id n : ℕ) (w : Write) → is_built (ask.Write w) ≡ true → is_waiting st s id ≡ false → space_named st w.space ≡ Some n → entry_fault st.classes w.entry ≡ None → is_none (granted w.lease) ≡ true → Some refusals.BadLease ≡ refusal st s id (ask.Write w)
 unfolding refusal
-write_full st s id n w built free space fault full =
+write_bad_lease st s id n w built free space fault none =
+    let good = no_fault (is_unknown st.classes w.entry) (is_bad st.classes w.entry) fault in
+    rw (free, space, no_txn w built, good.0, good.1, none) refl
+
+pub write_full : (st : State) (s id n : ℕ) (w : Write) → is_built (ask.Write w) ≡ true → is_waiting st s id ≡ false → space_named st w.space ≡ Some n → entry_fault st.classes w.entry ≡ None → is_none (granted w.lease) ≡ false → 65536 ≤ rows_in st n → Some refusals.SpaceFull ≡ refusal st s id (ask.Write w)
+unfolding refusal
+write_full st s id n w built free space fault lease full =
     let good = no_fault (is_unknown st.classes w.entry) (is_bad st.classes w.entry) fault in
     let more : nat_lt 65536 (rows_in st n + 1) ≡ true = lt-ltb 65536 (rows_in st n + 1) (omega arith) in
-    rw (free, space, no_txn w built, good.0, good.1, is_granted w built, more) refl
+    rw (free, space, no_txn w built, good.0, good.1, lease, more) refl
 
-pub write_used_up : (st : State) (s id n : ℕ) (w : Write) → is_built (ask.Write w) ≡ true → is_waiting st s id ≡ false → space_named st w.space ≡ Some n → entry_fault st.classes w.entry ≡ None → rows_in st n < 65536 → 2 ^ 62 < st.next_number → Some refusals.UsedUp ≡ refusal st s id (ask.Write w)
+pub write_used_up : (st : State) (s id n : ℕ) (w : Write) → is_built (ask.Write w) ≡ true → is_waiting st s id ≡ false → space_named st w.space ≡ Some n → entry_fault st.classes w.entry ≡ None → is_none (granted w.lease) ≡ false → rows_in st n < 65536 → 2 ^ 62 < st.next_number → Some refusals.UsedUp ≡ refusal st s id (ask.Write w)
 unfolding refusal
-write_used_up st s id n w built free space fault room used =
+write_used_up st s id n w built free space fault lease room used =
     let good = no_fault (is_unknown st.classes w.entry) (is_bad st.classes w.entry) fault in
     let fits : nat_lt 65536 (rows_in st n + 1) ≡ false = le-ltb 65536 (rows_in st n + 1) (omega arith) in
     let drawn : nat_lt (2 ^ 62 + 1) (st.next_number + 1) ≡ true = lt-ltb (2 ^ 62 + 1) (st.next_number + 1) (omega arith) in
-    rw (free, space, no_txn w built, good.0, good.1, is_granted w built, fits, drawn) refl
+    rw (free, space, no_txn w built, good.0, good.1, lease, fits, drawn) refl
 
-pub write_accepted : (st : State) (s id n : ℕ) (w : Write) → is_built (ask.Write w) ≡ true → is_waiting st s id ≡ false → space_named st w.space ≡ Some n → entry_fault st.classes w.entry ≡ None → rows_in st n < 65536 → st.next_number ≤ 2 ^ 62 → None ≡ refusal st s id (ask.Write w)
+pub write_accepted : (st : State) (s id n : ℕ) (w : Write) → is_built (ask.Write w) ≡ true → is_waiting st s id ≡ false → space_named st w.space ≡ Some n → entry_fault st.classes w.entry ≡ None → is_none (granted w.lease) ≡ false → rows_in st n < 65536 → st.next_number ≤ 2 ^ 62 → None ≡ refusal st s id (ask.Write w)
 unfolding refusal
-write_accepted st s id n w built free space fault room left =
+write_accepted st s id n w built free space fault lease room left =
     let good = no_fault (is_unknown st.classes w.entry) (is_bad st.classes w.entry) fault in
     let fits : nat_lt 65536 (rows_in st n + 1) ≡ false = le-ltb 65536 (rows_in st n + 1) (omega arith) in
     let drawn : nat_lt (2 ^ 62 + 1) (st.next_number + 1) ≡ false = le-ltb (2 ^ 62 + 1) (st.next_number + 1) (omega arith) in
-    rw (free, space, no_txn w built, good.0, good.1, is_granted w built, fits, drawn) refl
+    rw (free, space, no_txn w built, good.0, good.1, lease, fits, drawn) refl
 
 -- ---- reads and takes
 
@@ -142,6 +142,14 @@ unfolding refusal
 take_refused st s id q = refl
 
 -- ---- operations that nothing but their id speaks against
+
+pub renew_all_refused : (st : State) (s id : ℕ) (ls : List (ℤ × ℤ)) → cond (is_waiting st s id) (Some refusals.IdInUse) None ≡ refusal st s id (ask.RenewAll ls)
+unfolding refusal
+renew_all_refused st s id ls = refl
+
+pub cancel_all_refused : (st : State) (s id : ℕ) (ls : List ℤ) → cond (is_waiting st s id) (Some refusals.IdInUse) None ≡ refusal st s id (ask.CancelAll ls)
+unfolding refusal
+cancel_all_refused st s id ls = refl
 
 pub spaces_refused : (st : State) (s id : ℕ) → cond (is_waiting st s id) (Some refusals.IdInUse) None ≡ refusal st s id ask.Spaces
 unfolding refusal

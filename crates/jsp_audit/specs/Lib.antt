@@ -5,3 +5,4 @@ pub mod Rows
 pub mod Offers
 pub mod Replay
 pub mod Spaces
+pub mod Leases

@@ -2,8 +2,8 @@
 use Rattle.std.specs.Prelude.{ℕ, ◌^◌, min, max}
 use Rattle.jsp_model.specs.declared.state.State.{State}
 use Rattle.jsp_model.specs.declared.state.Row.{Row}
-use Rattle.jsp_model.specs.declared.step.Item.{Item}
-use Rattle.jsp_model.specs.declared.step.Rank.TheVariants as rank
+use Rattle.jsp_lease.specs.declared.item.Item.{Item}
+use Rattle.jsp_lease.specs.declared.item.Rank.TheVariants as rank
 
 -- the greatest reading so far, clipped
 abbrev pub at_time : State → ℕ → State

@@ -3,16 +3,19 @@ ghost use Rattle.std.specs.Prelude.{◌≡◌, ◌∷◌, [], List, ℕ, true, f
 ghost use Rattle.jsp_audit.specs.Spaces.{names_of as names_in};
 ghost use Rattle.std.specs.Option.{option_copied};
 ghost use Rattle.jsp_types.specs.Matching.{is_small};
-ghost use Rattle.jsp_wire.specs.Limits.{is_built, is_plain};
+ghost use Rattle.jsp_wire.specs.Limits.{is_built, is_plain, has_fitting_parts};
 ghost use Rattle.jsp_wire.specs.declared.ask.Ask.TheVariants as ask;
 ghost use Rattle.jsp_model.specs.declared.step.Step.TheVariants as step;
-ghost use Rattle.jsp_model.specs.Lookup.{is_open, contains as has};
+ghost use Rattle.jsp_reply.specs.declared.reply.Reply.TheVariants as says;
+ghost use Rattle.jsp_model.specs.Lookup.{is_open, contains as has, named as number_named};
 ghost use Rattle.jsp_model.specs.declared.state.Form.{Form};
+ghost use Rattle.jsp_lease.specs.Granted.{ms_of as granted_ms};
 ghost use Rattle.jsp_model.specs.Refusals.{refusal as refusal_of, one_row};
 ghost use Rattle.jsp_model.specs.Answers.{said as said_in, answer as answer_of, rows_answer, is_many};
 ghost use Rattle.jsp_model.specs.Image.{IsWithinLimits};
 
-use crate::lookup::{contains, granted};
+use crate::batches::{cancel_answers, renew_answers};
+use crate::lookup::{contains, ms_of, named};
 use jsp_model::{Row, Space, State};
 use jsp_reply::{Refusal, Reply, Said};
 use jsp_types::{Entry, Items, NoMemory, Text};
@@ -54,6 +57,7 @@ pub(crate) fn accepted(
 ) -> Result<Said, NoMemory>
     requires limits { IsWithinLimits state.now }
     requires built { IsTrue (is_built ask.now) }
+    requires fits { IsTrue (has_fitting_parts ask.now) }
     ensures { IfOk result (λ y. answer_of state.now session id rows.now ask.now ≡ y ∷ []) }
 {
     match ask {
@@ -61,6 +65,16 @@ pub(crate) fn accepted(
         Ask::Write(write) => Ok(leased(state, session, id, write)),
         Ask::Read(search) => shown(state, session, id, search, rows),
         Ask::Take(search) => shown(state, session, id, search, rows),
+        Ask::Renew { lease, ms } => Ok(renewed(id, *lease, *ms)),
+        Ask::Cancel { .. } => Ok(Said::new(Reply::Done { id })),
+        Ask::RenewAll { leases } => {
+            let items = renew_answers(alloc, state, leases.as_slice())?;
+            Ok(Said::new(Reply::Leases { id, items }))
+        }
+        Ask::CancelAll { leases } => {
+            let items = cancel_answers(alloc, state, leases.as_slice())?;
+            Ok(Said::new(Reply::Leases { id, items }))
+        }
         Ask::Spaces => {
             let names = names_of(alloc, state.spaces.as_slice())?;
             Ok(Said::new(Reply::Names { id, names }))
@@ -76,7 +90,17 @@ fn leased(state: &State, session: u64, id: u64, write: &Write) -> Said
     Said::new(Reply::Leased {
         id,
         lease: state.next_number,
-        ms: granted(write.lease).unwrap_or(0),
+        ms: ms_of(write.lease),
+    })
+}
+
+fn renewed(id: u64, lease: i64, ms: i64) -> Said
+    ensures { result ≡ says.Leased id (number_named lease) (granted_ms ms) }
+{
+    Said::new(Reply::Leased {
+        id,
+        lease: named(lease),
+        ms: ms_of(ms),
     })
 }
 

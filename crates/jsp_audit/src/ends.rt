@@ -1,7 +1,8 @@
 //! What is due.
 ghost use Rattle.std.specs.Prelude.{◌≡◌, Some, if◌then◌else◌};
 ghost use Rattle.std.specs.Option.{option_map_or};
-ghost use Rattle.jsp_model.specs.Due.{due as first_due, is_before as comes_before, rank_number as place_of_rank};
+ghost use Rattle.jsp_lease.specs.Due.{is_before as comes_before, rank_number as place_of_rank};
+ghost use Rattle.jsp_model.specs.Due.{due as first_due};
 ghost use Rattle.jsp_model.specs.Image.{IsWithinLimits};
 ghost use Rattle.jsp_audit.specs.Time.{row_item};
 

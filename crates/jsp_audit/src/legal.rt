@@ -3,7 +3,7 @@ ghost use Rattle.std.specs.Prelude.{◌≡◌, ◌==◌, ◌&&◌, ◌^◌, IfOk
 ghost use Rattle.jsp_types.specs.Classes.{first_that};
 ghost use Rattle.jsp_wire.specs.Limits.{is_plain};
 ghost use Rattle.jsp_model.specs.declared.step.Step.TheVariants as step;
-ghost use Rattle.jsp_model.specs.Due.{rank_number as place_of_rank, is_item as is_same_item};
+ghost use Rattle.jsp_lease.specs.Due.{rank_number as place_of_rank, is_item as is_same_item};
 ghost use Rattle.jsp_model.specs.Refusals.{refusal as refusal_of, rows_tests, rows_asked, as_blocked, one_row};
 ghost use Rattle.jsp_model.specs.Steps.{is_legal as legal, has_its_rows as has_rows, is_choice as chooses, is_fault as is_a_fault, outbox_of};
 ghost use Rattle.jsp_model.specs.Image.{IsWithinLimits};

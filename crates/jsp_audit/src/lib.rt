@@ -12,8 +12,10 @@
 
 mod answers;
 mod applying;
+mod batches;
 mod emptiness;
 mod ends;
+mod leases;
 mod legal;
 mod lookup;
 mod making;

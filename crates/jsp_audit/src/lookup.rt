@@ -1,10 +1,12 @@
 //! Finding things in a state.
-ghost use Rattle.std.specs.Prelude.{◌≡◌, ◌==◌, ◌&&◌, length, filter};
+ghost use Rattle.std.specs.Prelude.{◌≡◌, ◌≤◌, ◌==◌, ◌&&◌, length, filter};
 ghost use Rattle.std.specs.List.{list_any};
-ghost use Rattle.jsp_model.specs.Lookup.{is_open as has_open, space_named as place_named, is_waiting as waits, contains as has};
-ghost use Rattle.jsp_model.specs.Refusals.{rows_in as count_in, granted as granted_of};
+ghost use Rattle.jsp_model.specs.Lookup.{is_open as has_open, space_named as place_named, is_waiting as waits, is_living as lives, is_voting as votes, named as number_named, rank_of as rank_of_number, contains as has};
+ghost use Rattle.jsp_lease.specs.Granted.{granted as granted_of, ms_of as granted_ms};
+ghost use Rattle.jsp_model.specs.Refusals.{rows_in as count_in};
 
-use jsp_model::{Blocked, Commit, State};
+use jsp_lease::granted;
+use jsp_model::{Blocked, Commit, Rank, State, Transaction};
 
 /// Whether the session is open.
 pub fn is_open(state: &State, session: u64) -> bool
@@ -62,21 +64,87 @@ pub(crate) fn contains(numbers: &[u64], number: u64) -> bool
     numbers.iter().any(|n| *n == number)
 }
 
-const MOST_MS: u64 = 3_600_000;
-
-const ANY_MS: u64 = 60_000;
-
-/// What a lease of the asked time is granted, in milliseconds: the least of the time and an hour,
-/// a minute for ANY (-1), and nothing for other negative times (Jini Leasing; the numbers are this
-/// profile's own).
-pub(crate) fn granted(lease: i64) -> Option<u64>
-    ensures { result ≡ granted_of lease }
+/// The number that a request gives. Nothing has the number 0.
+pub(crate) fn named(number: i64) -> u64
+    ensures { result ≡ number_named number }
 {
-    if lease >= 0 {
-        return Some((lease as u64).min(MOST_MS));
+    if number < 0 {
+        return 0;
     }
-    if lease == -1 {
-        return Some(ANY_MS);
+    number as u64
+}
+
+/// Whether there is such a transaction.
+pub(crate) fn is_living(state: &State, number: u64) -> bool
+    ensures { result ≡ lives state.now number }
+{
+    has_transaction(state.transactions.as_slice(), number)
+}
+
+fn has_transaction(transactions: &[Transaction], number: u64) -> bool
+    ensures { result ≡ list_any (λ t. t.number == number) transactions.now }
+{
+    transactions.iter().any(|t| t.number == number)
+}
+
+/// Whether the commit of the transaction was asked.
+pub(crate) fn is_voting(state: &State, number: u64) -> bool
+    ensures { result ≡ votes state.now number }
+{
+    has_commit(state.commits.as_slice(), number)
+}
+
+fn has_commit(commits: &[Commit], transaction: u64) -> bool
+    ensures { result ≡ list_any (λ c. c.transaction == transaction) commits.now }
+{
+    commits.iter().any(|c| c.transaction == transaction)
+}
+
+/// What the number names that has a lease: a row, a registration, a transaction or a match set.
+pub(crate) fn rank_of(state: &State, number: u64) -> Option<Rank>
+    ensures { result ≡ rank_of_number state.now number }
+{
+    if is_row(state, number) {
+        return Some(Rank::Entry);
+    }
+    if is_registration(state, number) {
+        return Some(Rank::Registration);
+    }
+    if is_living(state, number) {
+        return Some(Rank::Transaction);
+    }
+    if is_set(state, number) {
+        return Some(Rank::MatchSet);
     }
     None
+}
+
+pub(crate) fn is_row(state: &State, number: u64) -> bool
+    ensures { result ≡ list_any (λ r. r.number == number) state.now.rows }
+{
+    state.rows.as_slice().iter().any(|r| r.number == number)
+}
+
+fn is_registration(state: &State, number: u64) -> bool
+    ensures { result ≡ list_any (λ r. r.number == number) state.now.registrations }
+{
+    state
+        .registrations
+        .as_slice()
+        .iter()
+        .any(|r| r.number == number)
+}
+
+fn is_set(state: &State, number: u64) -> bool
+    ensures { result ≡ list_any (λ m. m.number == number) state.now.sets }
+{
+    state.sets.as_slice().iter().any(|m| m.number == number)
+}
+
+/// What a lease of the asked time is granted, in milliseconds, where it is granted at all.
+pub(crate) fn ms_of(lease: i64) -> u64
+    ensures ms { result ≡ granted_ms lease }
+    ensures limit { result ≤ 3600000 }
+{
+    granted(lease).unwrap_or(0)
 }

@@ -1,7 +1,7 @@
 //! The state after each kind of step.
 ghost use Rattle.std.specs.Prelude.{◌≡◌, ◌≤◌, ◌^◌, true, OnOk, OnErr, IfOk, IfErr, Some, IsTrue, take};
 ghost use Rattle.jsp_model.specs.declared.step.Step.TheVariants as step;
-ghost use Rattle.jsp_model.specs.declared.step.Rank.TheVariants as rank;
+ghost use Rattle.jsp_lease.specs.declared.item.Rank.TheVariants as rank;
 ghost use Rattle.jsp_model.specs.Image.{IsWithinLimits};
 ghost use Rattle.jsp_model.specs.Lookup.{is_open};
 ghost use Rattle.jsp_model.specs.Steps.{is_legal, next, outbox_of};

@@ -5,12 +5,15 @@ ghost use Rattle.jsp_wire.specs.Limits.{is_built, is_plain};
 ghost use Rattle.jsp_wire.specs.declared.ask.Ask.TheVariants as ask;
 ghost use Rattle.jsp_types.specs.Classes.{first_that};
 ghost use Rattle.jsp_model.specs.declared.state.Form.{Form};
+ghost use Rattle.jsp_lease.specs.Granted.{granted as granted_of};
 ghost use Rattle.jsp_model.specs.Refusals.{refusal as refusal_of, class_asked as class_of, kinded as fields_with_kind, rows_tests, one_row};
 ghost use Rattle.jsp_model.specs.Lookup.{is_waiting as waits};
 ghost use Rattle.jsp_reply.specs.declared.refusal.Refusal.TheVariants.{IdInUse};
 ghost use Rattle.jsp_audit.specs.Faults.{refusal_of_class, refusal_of_entry};
 
+use crate::leases::{number_refusal, renew_refusal};
 use crate::lookup::{is_waiting, rows_in, space_named};
+use jsp_lease::granted;
 use jsp_model::State;
 use jsp_reply::Refusal;
 use jsp_types::{
@@ -35,6 +38,10 @@ pub fn refusal(
         Ask::Write(write) => Ok(refuse_write(state, session, id, write)),
         Ask::Read(search) => Ok(refuse_search(state, session, id, search)),
         Ask::Take(search) => Ok(refuse_search(state, session, id, search)),
+        Ask::Renew { lease, ms } => Ok(refuse_renew(state, session, id, *lease, *ms)),
+        Ask::Cancel { lease } => Ok(refuse_cancel(state, session, id, *lease)),
+        Ask::RenewAll { .. } => Ok(refuse_waiting(state, session, id)),
+        Ask::CancelAll { .. } => Ok(refuse_waiting(state, session, id)),
         Ask::Spaces => Ok(refuse_waiting(state, session, id)),
         Ask::Bye => Ok(refuse_waiting(state, session, id)),
         _ => unreachable!(),
@@ -145,6 +152,9 @@ fn refuse_write(state: &State, session: u64, id: u64, write: &Write) -> Option<R
     if let Some(fault) = entry_fault(&state.classes, &write.entry) {
         return Some(entry_refusal(fault));
     }
+    if asks_no_lease(write) {
+        return Some(Refusal::BadLease);
+    }
     if rows_in(state, space as u64) >= MOST_ROWS {
         return Some(Refusal::SpaceFull);
     }
@@ -152,6 +162,12 @@ fn refuse_write(state: &State, session: u64, id: u64, write: &Write) -> Option<R
         return Some(Refusal::UsedUp);
     }
     None
+}
+
+fn asks_no_lease(write: &Write) -> bool
+    ensures { result ≡ is_none (granted_of write.now.lease) }
+{
+    granted(write.lease).is_none()
 }
 
 /// Why a read or take that doesn't wait is refused.
@@ -179,4 +195,24 @@ fn refuse_waiting(state: &State, session: u64, id: u64) -> Option<Refusal>
         return Some(Refusal::IdInUse);
     }
     None
+}
+
+#[tactic(auto, unfolding(jsp_model::specs::Refusals::refusal))]
+fn refuse_renew(state: &State, session: u64, id: u64, lease: i64, ms: i64) -> Option<Refusal>
+    ensures { result ≡ refusal_of state.now session id (ask.Renew lease ms) }
+{
+    if is_waiting(state, session, id) {
+        return Some(Refusal::IdInUse);
+    }
+    renew_refusal(state, lease, ms)
+}
+
+#[tactic(auto, unfolding(jsp_model::specs::Refusals::refusal))]
+fn refuse_cancel(state: &State, session: u64, id: u64, lease: i64) -> Option<Refusal>
+    ensures { result ≡ refusal_of state.now session id (ask.Cancel lease) }
+{
+    if is_waiting(state, session, id) {
+        return Some(Refusal::IdInUse);
+    }
+    number_refusal(state, lease)
 }

@@ -13,7 +13,8 @@ ghost use Rattle.jsp_model.specs.Steps.{next};
 ghost use Rattle.jsp_model.specs.Image.{IsWithinLimits};
 
 use crate::answers::reply;
-use crate::lookup::{granted, space_named};
+use crate::leases::{cancel, cancel_all, renew, renew_all};
+use crate::lookup::{ms_of, space_named};
 use crate::outboxes::{Posted, post, take_back};
 use crate::refusals::{class_asked, refusal};
 use crate::rows::remove_rows;
@@ -95,6 +96,22 @@ fn accept(
             accept_take(state, session, id, search, rows);
             Ok(())
         }
+        Ask::Renew { lease, ms } => {
+            renew(state, *lease, *ms);
+            Ok(())
+        }
+        Ask::Cancel { lease } => {
+            cancel(state, *lease);
+            Ok(())
+        }
+        Ask::RenewAll { leases } => {
+            renew_all(state, leases.as_slice());
+            Ok(())
+        }
+        Ask::CancelAll { leases } => {
+            cancel_all(state, leases.as_slice());
+            Ok(())
+        }
         Ask::Spaces => Ok(()),
         Ask::Bye => {
             close(state, session);
@@ -157,7 +174,7 @@ fn row_of(alloc: Global, state: &State, write: &Write) -> Result<Row, NoMemory>
         number: state.next_number,
         space: space as u64,
         entry,
-        end: state.time + granted(write.lease).unwrap_or(0),
+        end: state.time + ms_of(write.lease),
         writer: None,
         readers: Items::new(alloc),
         taker: None,

@@ -17,13 +17,14 @@ use Rattle.jsp_model.specs.declared.state.Transaction.{Transaction}
 use Rattle.jsp_model.specs.declared.state.Joined.{Joined}
 use Rattle.jsp_model.specs.declared.state.MatchSet.{MatchSet}
 use Rattle.jsp_model.specs.declared.state.Form.TheVariants as form
-use Rattle.jsp_model.specs.declared.step.Rank.{Rank}
-use Rattle.jsp_model.specs.declared.step.Rank.TheVariants as rank
+use Rattle.jsp_lease.specs.declared.item.Rank.{Rank}
+use Rattle.jsp_lease.specs.declared.item.Rank.TheVariants as rank
 use Rattle.jsp_model.specs.declared.step.Step.{Step}
 use Rattle.jsp_model.specs.declared.step.Step.TheVariants as step
 use Rattle.jsp_model.specs.Lookup.{is_open, joined_of, crash_count, update, contains, named, is_caller, is_living, is_voting, joined_at, blocked_of, rank_of}
 use Rattle.jsp_model.specs.Sight.{available}
-use Rattle.jsp_model.specs.Refusals.{tests, refusal, WriteRequest, RowRequest, one_entry, all_entries, one_row, many_rows, rows_asked, as_blocked, would_block, caller_of, place_of, ms_of, class_asked, renew_tests, number_tests}
+use Rattle.jsp_lease.specs.Granted.{ms_of}
+use Rattle.jsp_model.specs.Refusals.{tests, refusal, WriteRequest, RowRequest, one_entry, all_entries, one_row, many_rows, rows_asked, as_blocked, would_block, caller_of, place_of, class_asked, renew_tests, number_tests}
 use Rattle.jsp_model.specs.Changes.{open_session, set_version, newly_joined, join, owe, add_row, new_row, write, give, block, give_or_block, register, open_set, close, unread, forget, abort, committed, published, commit, vote_of, is_not_changed, cast, remove, extend, renew, cancel, renew_one, cancel_one, reset, accepted}
 use Rattle.jsp_model.specs.Steps.{is_rising, is_choice, has_its_rows, is_legal, asked, is_too_long, granted_rows, change, next, handed, post}
 use Rattle.jsp_model.specs.Answers.{said}

@@ -8,8 +8,8 @@ use Rattle.jsp_model.specs.declared.state.Session.{Session}
 use Rattle.jsp_model.specs.declared.state.Blocked.{Blocked}
 use Rattle.jsp_model.specs.declared.step.Step.{Step}
 use Rattle.jsp_model.specs.declared.step.Step.TheVariants as step
-use Rattle.jsp_model.specs.declared.step.Rank.{Rank}
-use Rattle.jsp_model.specs.declared.step.Rank.TheVariants as rank
+use Rattle.jsp_lease.specs.declared.item.Rank.{Rank}
+use Rattle.jsp_lease.specs.declared.item.Rank.TheVariants as rank
 use Rattle.jsp_model.specs.Lookup.{is_open, blocked_of}
 use Rattle.jsp_model.specs.Changes.{remove}
 use Rattle.jsp_model.specs.Steps.{next, granted_rows}

@@ -9,11 +9,12 @@ use Rattle.jsp_model.specs.declared.state.Blocked.{Blocked}
 use Rattle.jsp_model.specs.declared.state.MatchSet.{MatchSet}
 use Rattle.jsp_model.specs.declared.state.Row.{Row}
 use Rattle.jsp_model.specs.declared.state.Transaction.{Transaction}
-use Rattle.jsp_model.specs.declared.step.Item.{Item}
-use Rattle.jsp_model.specs.declared.step.Rank.TheVariants as rank
+use Rattle.jsp_lease.specs.declared.item.Item.{Item}
+use Rattle.jsp_lease.specs.declared.item.Rank.TheVariants as rank
 use Rattle.jsp_model.specs.declared.step.Step.TheVariants as step
 use Rattle.jsp_model.specs.Lookup.{empty, is_voting}
-use Rattle.jsp_model.specs.Due.{due, items, first_item}
+use Rattle.jsp_lease.specs.Due.{first_item}
+use Rattle.jsp_model.specs.Due.{due, items}
 use Rattle.jsp_model.specs.Changes.{close}
 use Rattle.jsp_model.specs.Steps.{next}
 

@@ -18,10 +18,11 @@ use Rattle.jsp_model.specs.declared.state.Transaction.{Transaction}
 use Rattle.jsp_model.specs.declared.state.Form.TheVariants as form
 use Rattle.jsp_model.specs.declared.step.Step.{Step}
 use Rattle.jsp_model.specs.declared.step.Step.TheVariants as step
-use Rattle.jsp_model.specs.declared.step.Rank.{Rank}
-use Rattle.jsp_model.specs.declared.step.Rank.TheVariants as rank
+use Rattle.jsp_lease.specs.declared.item.Rank.{Rank}
+use Rattle.jsp_lease.specs.declared.item.Rank.TheVariants as rank
 use Rattle.jsp_model.specs.Lookup.{empty, named, update, is_open, blocked_of, joined_at, rank_of}
-use Rattle.jsp_model.specs.Refusals.{refusal, WriteRequest, RowRequest, one_row, many_rows, one_entry, all_entries, would_block, as_blocked, caller_of, place_of, renew_tests, number_tests, ms_of}
+use Rattle.jsp_lease.specs.Granted.{ms_of}
+use Rattle.jsp_model.specs.Refusals.{refusal, WriteRequest, RowRequest, one_row, many_rows, one_entry, all_entries, would_block, as_blocked, caller_of, place_of, renew_tests, number_tests}
 use Rattle.jsp_types.specs.Classes.{first_that}
 use Rattle.jsp_model.specs.Changes.{close, newly_joined, join, owe, add_row, new_row, write, block, give, give_or_block, remove, extend, renew, renew_one, cancel, cancel_one, forget, commit, committed, published, cast, abort, accepted}
 use Rattle.jsp_model.specs.Steps.{is_legal, next, asked, granted_rows, is_too_long}

@@ -7,7 +7,8 @@ use Rattle.jsp_reply.specs.declared.reply.Reply.TheVariants as says
 use Rattle.jsp_model.specs.declared.state.State.{State}
 use Rattle.jsp_model.specs.declared.step.Step.TheVariants as step
 use Rattle.jsp_model.specs.Lookup.{is_open}
-use Rattle.jsp_model.specs.Refusals.{refusal, ms_of}
+use Rattle.jsp_lease.specs.Granted.{ms_of}
+use Rattle.jsp_model.specs.Refusals.{refusal}
 use Rattle.jsp_model.specs.Changes.{begin}
 use Rattle.jsp_model.specs.Answers.{said}
 use Rattle.jsp_model.specs.Steps.{next, post}

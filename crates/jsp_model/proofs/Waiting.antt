@@ -18,12 +18,14 @@ use Rattle.jsp_model.specs.declared.state.Form.{Form}
 use Rattle.jsp_model.specs.declared.state.Form.TheVariants as form
 use Rattle.jsp_model.specs.declared.step.Step.{Step}
 use Rattle.jsp_model.specs.declared.step.Step.TheVariants as step
-use Rattle.jsp_model.specs.declared.step.Rank.{Rank}
-use Rattle.jsp_model.specs.declared.step.Rank.TheVariants as rank
-use Rattle.jsp_model.specs.Lookup.{empty, named, update, blocked_of, joined_at}
+use Rattle.jsp_lease.specs.declared.item.Rank.{Rank}
+use Rattle.jsp_lease.specs.declared.item.Rank.TheVariants as rank
+use Rattle.jsp_model.specs.Lookup.{empty, named, update, blocked_of, joined_at, rank_of}
 use Rattle.jsp_model.specs.Quiet.{is_quiet, are_quiet, must_wait}
-use Rattle.jsp_model.specs.Refusals.{refusal, one_row, one_entry, would_block, as_blocked, caller_of, place_of}
-use Rattle.jsp_model.specs.Changes.{close, newly_joined, join, owe, new_row, give, give_or_block, remove, commit, abort, forget, committed, published, cast, accepted}
+use Rattle.jsp_types.specs.Classes.{first_that}
+use Rattle.jsp_lease.specs.Granted.{ms_of}
+use Rattle.jsp_model.specs.Refusals.{refusal, one_row, one_entry, would_block, as_blocked, caller_of, place_of, number_tests, renew_tests}
+use Rattle.jsp_model.specs.Changes.{extend, renew, cancel, renew_one, cancel_one, close, newly_joined, join, owe, new_row, give, give_or_block, remove, commit, abort, forget, committed, published, cast, accepted}
 use Rattle.jsp_model.specs.Steps.{next, asked, granted_rows, is_too_long}
 use Rattle.jsp_model.specs.Runs.{state_after}
 use Rattle.jsp_model.specs.House.{is_free, bare, own_of}
@@ -98,6 +100,29 @@ rows_keep st s id f q ns h plain =
     (λ e. absurd (cc (e, no)))
     (λ e. record { blocked = joined.blocked; registrations = joined.registrations })
 
+extend_keeps : (st : State) (end : ℕ) (r : Rank) (n : ℕ) → NothingWaits st → NothingWaits (extend st end r n)
+extend_keeps st end rank.Entry n h = record { blocked = h.blocked; registrations = h.registrations }
+extend_keeps st end rank.Registration n h = record { blocked = h.blocked; registrations = rw h.registrations refl }
+extend_keeps st end rank.Transaction n h = record { blocked = h.blocked; registrations = h.registrations }
+extend_keeps st end rank.Blocked n h = h
+extend_keeps st end rank.MatchSet n h = record { blocked = h.blocked; registrations = h.registrations }
+
+-- what is done to something that a number names, if it names something
+named_keeps : (change : Rank → State) (st : State) (r : Option Rank) → ((r : Rank) → NothingWaits (change r)) → NothingWaits st → NothingWaits (option_map_or change r st)
+named_keeps change st None keeps h = h
+named_keeps change st (Some r) keeps h = keeps r
+
+renew_keeps : (st : State) (lease ms : ℤ) → NothingWaits st → NothingWaits (renew st lease ms)
+renew_keeps st lease ms h = named_keeps (λ r. extend st (st.time + ms_of ms) r (named lease)) st (rank_of st (named lease)) (λ r. extend_keeps st (st.time + ms_of ms) r (named lease) h) h
+
+cancel_keeps : (st : State) (lease : ℤ) → NothingWaits st → NothingWaits (cancel st lease)
+cancel_keeps st lease h = named_keeps (λ r. remove st r (named lease)) st (rank_of st (named lease)) (λ r. remove_keeps st r (named lease) h) h
+
+-- a batch
+all_keep : {X : Type 0} (one : State → X → State) → ((st : State) (x : X) → NothingWaits st → NothingWaits (one st x)) → (st : State) (xs : List X) → NothingWaits st → NothingWaits (fold one st xs)
+all_keep one keeps st [] h = h
+all_keep one keeps st (x ∷ xs) h = all_keep one keeps (one st x) xs (keeps st x h)
+
 accepted_keeps : (st : State) (s id : ℕ) (ns : List ℕ) (a : Ask) → NothingWaits st → is_built a ≡ true → NothingWaits (accepted st s id ns a)
 accepted_keeps st s id ns (ask.Declare d) h built = record { blocked = h.blocked; registrations = h.registrations }
 accepted_keeps st s id ns (ask.Write w) h built =
@@ -109,6 +134,10 @@ accepted_keeps st s id ns (ask.Write w) h built =
     (record { blocked = kept.blocked; registrations = kept.registrations })
 accepted_keeps st s id ns (ask.Read q) h built = rows_keep st s id form.Read q ns h built
 accepted_keeps st s id ns (ask.Take q) h built = rows_keep st s id form.Take q ns h built
+accepted_keeps st s id ns (ask.Renew lease ms) h built = renew_keeps st lease ms h
+accepted_keeps st s id ns (ask.Cancel lease) h built = cancel_keeps st lease h
+accepted_keeps st s id ns (ask.RenewAll leases) h built = all_keep renew_one (λ st l h. either (is_some (first_that (renew_tests st l.0 l.1))) st (renew st l.0 l.1) (λ e. h) (λ e. renew_keeps st l.0 l.1 h)) st leases h
+accepted_keeps st s id ns (ask.CancelAll leases) h built = all_keep cancel_one (λ st lease h. either (is_some (first_that (number_tests st lease))) st (cancel st lease) (λ e. h) (λ e. cancel_keeps st lease h)) st leases h
 accepted_keeps st s id ns ask.Spaces h built = h
 accepted_keeps st s id ns ask.Bye h built = close_keeps st s h
 accepted_keeps st s id ns _ h built = cc (built)

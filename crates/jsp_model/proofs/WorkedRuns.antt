@@ -14,7 +14,7 @@ use Rattle.jsp_reply.specs.declared.reply.TxnState.TheVariants.{Voting}
 use Rattle.jsp_model.specs.declared.state.State.{State}
 use Rattle.jsp_model.specs.declared.step.Step.{Step}
 use Rattle.jsp_model.specs.declared.step.Step.TheVariants as step
-use Rattle.jsp_model.specs.declared.step.Rank.TheVariants as rank
+use Rattle.jsp_lease.specs.declared.item.Rank.TheVariants as rank
 use Rattle.jsp_model.specs.Lookup.{empty}
 use Rattle.jsp_model.specs.Quiet.{is_quiet}
 use Rattle.jsp_model.specs.Due.{due}
@@ -89,6 +89,11 @@ pub clock_never_goes_back : play start ((step.Open 1) ∷ (step.Ask 1 (record { 
     ≡ ((true, []) ∷ (true, (1, says.Done 1) ∷ []) ∷ (true, []) ∷ (true, []) ∷ (true, (1, says.Leased 2 1 10) ∷ []) ∷ (true, []) ∷ (true, (1, says.Shown 3 (job 1)) ∷ []) ∷ (true, []) ∷ (true, []) ∷ (true, (1, says.Nothing 4) ∷ []) ∷ [])
 unfolding refusal is_quiet due touches said is_legal next
 clock_never_goes_back = refl
+
+pub entry_lives_until_its_lease_ends : play start ((step.Open 1) ∷ (step.Ask 1 (record { id = 1; ask = declare_job }) ([])) ∷ (step.Ask 1 (record { id = 2; ask = ask.Write (record { space = (codes "a"); entry = (raw_job 1); lease = (pos 1000); txn = None }) }) ([])) ∷ (step.Clock 999) ∷ (step.Ask 1 (record { id = 3; ask = ask.Read (record { space = (codes "a"); template = (Some (raw_job 1)); timeout = (pos 0); txn = None }) }) (1 ∷ [])) ∷ (step.Clock 1000) ∷ (step.Due (record { end = 1000; rank = rank.Entry; number = 1 })) ∷ (step.Ask 1 (record { id = 4; ask = ask.Read (record { space = (codes "a"); template = (Some (raw_job 1)); timeout = (pos 0); txn = None }) }) ([])) ∷ [])
+    ≡ ((true, []) ∷ (true, (1, says.Done 1) ∷ []) ∷ (true, (1, says.Leased 2 1 1000) ∷ []) ∷ (true, []) ∷ (true, (1, says.Shown 3 (job 1)) ∷ []) ∷ (true, []) ∷ (true, []) ∷ (true, (1, says.Nothing 4) ∷ []) ∷ [])
+unfolding refusal is_quiet due touches said is_legal next
+entry_lives_until_its_lease_ends = refl
 
 pub write_wakes_a_waiting_take : play start ((step.Open 1) ∷ (step.Ask 1 (record { id = 1; ask = declare_job }) ([])) ∷ (step.Open 2) ∷ (step.Ask 1 (record { id = 7; ask = ask.Take (record { space = (codes "a"); template = (Some (raw_job 1)); timeout = (pos 1000); txn = None }) }) ([])) ∷ (step.Ask 1 (record { id = 7; ask = ask.Spaces }) ([])) ∷ (step.Ask 2 (record { id = 1; ask = ask.Write (record { space = (codes "a"); entry = (raw_job 1); lease = (pos 1000); txn = None }) }) ([])) ∷ (step.Grant 1 (2 ∷ [])) ∷ [])
     ≡ ((true, []) ∷ (true, (1, says.Done 1) ∷ []) ∷ (true, []) ∷ (true, []) ∷ (true, (1, says.Refused (Some 7) refusals.IdInUse) ∷ []) ∷ (true, (2, says.Leased 1 2 1000) ∷ []) ∷ (true, (1, says.Shown 7 (job 1)) ∷ []) ∷ [])

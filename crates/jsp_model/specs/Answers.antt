@@ -20,10 +20,11 @@ use Rattle.jsp_model.specs.declared.state.Form.{Form}
 use Rattle.jsp_model.specs.declared.state.Form.TheVariants as form
 use Rattle.jsp_model.specs.declared.step.Step.{Step}
 use Rattle.jsp_model.specs.declared.step.Step.TheVariants as step
-use Rattle.jsp_model.specs.declared.step.Rank.{Rank}
-use Rattle.jsp_model.specs.declared.step.Rank.TheVariants as rank
+use Rattle.jsp_lease.specs.declared.item.Rank.{Rank}
+use Rattle.jsp_lease.specs.declared.item.Rank.TheVariants as rank
 use Rattle.jsp_model.specs.Lookup.{named, is_open, is_caller, is_voting, blocked_of, registration_of, rows_of}
-use Rattle.jsp_model.specs.Refusals.{refusal, RowRequest, one_row, many_rows, ms_of, place_of, as_blocked, would_block, number_tests, renew_tests}
+use Rattle.jsp_lease.specs.Granted.{ms_of}
+use Rattle.jsp_model.specs.Refusals.{refusal, RowRequest, one_row, many_rows, place_of, as_blocked, would_block, number_tests, renew_tests}
 use Rattle.jsp_model.specs.Changes.{renew_one, cancel_one, page_of, is_last_page}
 
 -- what is said, and to whom

@@ -20,14 +20,15 @@ use Rattle.jsp_model.specs.declared.state.Blocked.{Blocked}
 use Rattle.jsp_model.specs.declared.state.Transaction.{Transaction}
 use Rattle.jsp_model.specs.declared.state.Joined.{Joined}
 use Rattle.jsp_model.specs.declared.state.MatchSet.{MatchSet}
-use Rattle.jsp_model.specs.declared.step.Rank.{Rank}
-use Rattle.jsp_model.specs.declared.step.Rank.TheVariants as rank
+use Rattle.jsp_lease.specs.declared.item.Rank.{Rank}
+use Rattle.jsp_lease.specs.declared.item.Rank.TheVariants as rank
 use Rattle.jsp_model.specs.declared.state.Vote.{Vote}
 use Rattle.jsp_model.specs.declared.state.Vote.TheVariants as vote
 use Rattle.jsp_model.specs.declared.state.Form.TheVariants as form
 use Rattle.jsp_model.specs.Lookup.{update, rank_of, named, contains, crash_count, is_caller, joined_at, set_of}
 use Rattle.jsp_model.specs.Sight.{is_take, readable}
-use Rattle.jsp_model.specs.Refusals.{WriteRequest, RowRequest, one_entry, all_entries, one_row, many_rows, ms_of, caller_of, place_of, as_blocked, would_block, class_asked, number_tests, renew_tests}
+use Rattle.jsp_lease.specs.Granted.{ms_of}
+use Rattle.jsp_model.specs.Refusals.{WriteRequest, RowRequest, one_entry, all_entries, one_row, many_rows, caller_of, place_of, as_blocked, would_block, class_asked, number_tests, renew_tests}
 
 -- ---- sessions
 

@@ -3,6 +3,7 @@ use Rattle.std.specs.Prelude.{ℕ, zero, suc, ℤ, pos, negsuc, ◌+◌, ◌^◌
 use Rattle.std.specs.List.{list_any}
 use Rattle.std.specs.Option.{option_map_or}
 use Rattle.jsp_types.specs.Classes.{first_that, is_ill_formed, differs, lacks_parent, inherits_badly, are_full, sorted}
+use Rattle.jsp_lease.specs.Granted.{granted, ms_of}
 use Rattle.jsp_types.specs.Matching.{is_unknown, is_bad, template_of}
 use Rattle.jsp_types.specs.declared.value.Kind.{Kind}
 use Rattle.jsp_types.specs.declared.class.Class.{Class}
@@ -27,15 +28,6 @@ use Rattle.jsp_model.specs.Lookup.{rank_of, named, space_named, crash_count, is_
 use Rattle.jsp_model.specs.Quiet.{must_wait}
 
 -- ---- what is asked
-
--- what a lease of the asked time is granted
-abbrev pub granted : ℤ → Option ℕ
-granted (pos ms) = Some (min ms 3600000)
-granted (negsuc zero) = Some 60000
-granted (negsuc (suc n)) = None
-
-abbrev pub ms_of : ℤ → ℕ
-ms_of lease = unwrap_or (granted lease) 0
 
 abbrev pub caller_of : Option ℤ → Option ℕ
 caller_of txn = option_map named txn

@@ -16,7 +16,8 @@ use Rattle.jsp_model.specs.declared.step.Step.TheVariants as step
 use Rattle.jsp_model.specs.Lookup.{update, contains, is_open, blocked_of, registration_of, is_voting, joined_of, joined_at}
 use Rattle.jsp_model.specs.Sight.{is_if, available, has_conflict}
 use Rattle.jsp_model.specs.Quiet.{are_quiet}
-use Rattle.jsp_model.specs.Due.{due, is_item}
+use Rattle.jsp_lease.specs.Due.{is_item}
+use Rattle.jsp_model.specs.Due.{due}
 use Rattle.jsp_model.specs.Touches.{touches}
 use Rattle.jsp_model.specs.Refusals.{refusal, RowRequest, rows_asked, as_blocked}
 use Rattle.jsp_model.specs.Changes.{open_session, close, give, unblock, tell, remove, cast_vote, commit, abort, accepted}

@@ -18,8 +18,9 @@ mod step;
 pub use config::Config;
 pub use house::{House, Input, Stopped, Why};
 pub use image::Image;
+pub use jsp_lease::{Item, Rank};
 pub use state::{
     Blocked, Commit, Form, Joined, MatchSet, Outbox, Registration, Row, Session, Space, State,
     Transaction, Vote,
 };
-pub use step::{Item, Rank, Step};
+pub use step::Step;

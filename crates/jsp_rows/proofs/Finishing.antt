@@ -6,13 +6,14 @@ use Rattle.std.proofs.lemmas.Bool.{eq-eqb}
 use Rattle.std.proofs.lemmas.List.{append-nil}
 use Rattle.jsp_model.specs.declared.state.State.{State}
 use Rattle.jsp_model.specs.declared.state.Row.{Row}
-use Rattle.jsp_model.specs.declared.step.Item.{Item}
-use Rattle.jsp_model.specs.declared.step.Rank.{Rank}
-use Rattle.jsp_model.specs.declared.step.Rank.TheVariants as rank
+use Rattle.jsp_lease.specs.declared.item.Item.{Item}
+use Rattle.jsp_lease.specs.declared.item.Rank.{Rank}
+use Rattle.jsp_lease.specs.declared.item.Rank.TheVariants as rank
 use Rattle.jsp_model.specs.declared.step.Step.{Step}
 use Rattle.jsp_model.specs.declared.step.Step.TheVariants as step
 use Rattle.jsp_model.specs.declared.house.Stopped.{Stopped}
-use Rattle.jsp_model.specs.Due.{due, is_item, rank_number, first_item, is_before}
+use Rattle.jsp_lease.specs.Due.{is_item, rank_number, first_item, is_before}
+use Rattle.jsp_model.specs.Due.{due}
 use Rattle.jsp_model.specs.Answers.{said}
 use Rattle.jsp_model.specs.Changes.{remove}
 use Rattle.jsp_model.specs.Steps.{is_legal, next}

@@ -74,7 +74,7 @@ one_part_asks_nothing line h (act.Open s) is = empty_is_no_number (other_parts l
 one_part_asks_nothing line h (act.Shut s) is = empty_is_no_number (other_parts line) s (nothing_behind line h) is.1
 one_part_asks_nothing line h (act.Piece s bytes) (inl is) = empty_is_no_number (first_part (other_parts line)) s (ap first_part (nothing_behind line h)) is.1.session
 one_part_asks_nothing line h (act.Piece s bytes) (inr is) = empty_is_no_number (first_part (other_parts line)) s (ap first_part (nothing_behind line h)) is.1.session
-one_part_asks_nothing line h (act.Clock t) is = is
+one_part_asks_nothing line h (act.Clock t) is = empty_is_no_number (other_parts line) t (nothing_behind line h) is.1
 
 -- nor does a text without a blank name bytes to send
 pub one_part_sends_nothing : (rest : List ℕ) (s : ℕ) (bytes : List ℕ) → list_any is_blank rest ≡ false → SendsRaw rest s bytes → ⊥

@@ -1,9 +1,9 @@
 //! What the program does, as a library.
 //!
-//! `script` runs a script: lines that open a session, send it a payload or bytes, or shut it. It reads
-//! them all, drives an empty house by them (jsp_drive), and prints each frame that is sent as a line of
-//! its own. Its contract reaches from the script's bytes to the printed ones, over any reader and
-//! writer that say which they hold: the acts are those that the lines ask for
+//! `script` runs a script: lines that open a session, send it a payload or bytes, shut it, or read
+//! the clock. It reads them all, drives an empty house by them (jsp_drive), and prints each frame that
+//! is sent as a line of its own. Its contract reaches from the script's bytes to the printed ones,
+//! over any reader and writer that say which they hold: the acts are those that the lines ask for
 //! (`specs/Script.antt`), and what is written are the lines of one legal run that belongs to these
 //! acts (`specs/Print.antt`). A script that is too long or has a line that isn't understood is
 //! refused whole, and nothing is written.

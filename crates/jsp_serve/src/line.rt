@@ -20,9 +20,10 @@ pub(crate) enum Line {
     NotUnderstood,
 }
 
-/// Reads a line: `open c`, `send c JSON`, `hex c HEX` or `shut c`. c is a session's decimal number,
-/// JSON is all that is left of the line, sent as one frame, and HEX is one or more pairs of hex
-/// digits, sent as these bytes. One blank stands between parts.
+/// Reads a line: `open c`, `send c JSON`, `hex c HEX`, `shut c` or `clock t`. c is a session's
+/// decimal number, JSON is all that is left of the line, sent as one frame, HEX is one or more pairs
+/// of hex digits, sent as these bytes, and t is a reading of the clock in milliseconds. One blank
+/// stands between parts.
 pub(crate) fn read_line(alloc: Global, line: &[u8]) -> Result<Line, NoMemory>
     requires { length line.now < 2 ^ 32 }
     ensures { IfOk result (IsReadAs line.now) }
@@ -52,6 +53,8 @@ fn act_of(alloc: Global, line: &[u8]) -> Result<Option<Act>, NoMemory>
         Ok(send(alloc, rest)?.map(|(session, bytes)| Act::Piece { session, bytes }))
     } else if kind == b"hex".as_slice() {
         Ok(raw(alloc, rest)?.map(|(session, bytes)| Act::Piece { session, bytes }))
+    } else if kind == b"clock".as_slice() {
+        Ok(number(rest).map(|time| Act::Clock { time }))
     } else {
         Ok(None)
     }
@@ -63,10 +66,7 @@ fn send(alloc: Global, rest: &[u8]) -> Result<Option<(u64, Vec<u8>)>, NoMemory>
     requires { length rest.now < 2 ^ 32 }
     ensures { IfOk result (λ r. MatchOption r ((s : ℕ) (bytes : List ℕ) → Sends rest.now s bytes → ⊥) (λ p. Sends rest.now p.0 p.1.items)) }
 {
-    let Some((digits, payload)) = split_at_blank(rest) else {
-        return Ok(None);
-    };
-    let Some(session) = number(digits) else {
+    let Some((session, payload)) = session_and_rest(rest) else {
         return Ok(None);
     };
     Ok(Some((session, frame(alloc, payload)?)))
@@ -76,16 +76,23 @@ fn send(alloc: Global, rest: &[u8]) -> Result<Option<(u64, Vec<u8>)>, NoMemory>
 fn raw(alloc: Global, rest: &[u8]) -> Result<Option<(u64, Vec<u8>)>, NoMemory>
     ensures { IfOk result (λ r. MatchOption r ((s : ℕ) (bytes : List ℕ) → SendsRaw rest.now s bytes → ⊥) (λ p. SendsRaw rest.now p.0 p.1.items)) }
 {
-    let Some((digits, pairs)) = split_at_blank(rest) else {
-        return Ok(None);
-    };
-    let Some(session) = number(digits) else {
+    let Some((session, pairs)) = session_and_rest(rest) else {
         return Ok(None);
     };
     let Some(bytes) = decoded(alloc, pairs)? else {
         return Ok(None);
     };
     Ok(Some((session, bytes)))
+}
+
+/// The session that stands before the first blank, and what stands behind it.
+fn session_and_rest(text: &[u8]) -> Option<(u64, &[u8])>
+    ensures none { IfNone result ((s : ℕ) → Names (first_part text.now) s → IsFalse (list_any is_blank text.now)) }
+    ensures some { IfSome result (λ p. IsTrue (list_any is_blank text.now) × Names (first_part text.now) p.0 × (p.1.now ≡ other_parts text.now)) }
+{
+    let (digits, others) = split_at_blank(text)?;
+    let session = number(digits)?;
+    Some((session, others))
 }
 
 /// The bytes of one or more pairs of hex digits.

@@ -1,6 +1,14 @@
 //! Whole scripts, from what is read to what is printed.
+mod closing;
+mod declaring;
+mod driving;
+mod framing;
+mod hostile;
+mod leases;
+mod reading;
 mod steps;
 mod streams;
+mod subclasses;
 
 use crate::{Status, script};
 use jsp_rows::Config;
@@ -158,6 +166,11 @@ fn lines_that_are_not_understood(rt: HostRuntime) -> Result<(), Fail> {
         "shut",
         "shut 1 2",
         "settle",
+        "clock",
+        "clock ",
+        "clock -1",
+        "clock 1 2",
+        "clock 18446744073709551616",
         "hex",
         "hex 1",
         "hex 1 ",

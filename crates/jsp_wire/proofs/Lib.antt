@@ -1,3 +1,4 @@
 pub mod Loop
+pub mod Pair
 pub mod Payload
 mod WorkedPayloads

@@ -18,10 +18,6 @@ has_fitting_parts (ask.TakeMany q) = is_between 1 8 (length q.templates) && is_b
 has_fitting_parts (ask.Next set most) = is_between 1 16 most
 has_fitting_parts _ = true
 
-abbrev pub is_positive : ℤ → Bool
-is_positive (pos n) = nat_lt 0 n
-is_positive (negsuc n) = false
-
 abbrev pub is_zero : ℤ → Bool
 is_zero (pos n) = n == 0
 is_zero (negsuc n) = false
@@ -30,13 +26,17 @@ is_zero (negsuc n) = false
 abbrev pub is_plain : Search → Bool
 is_plain q = is_zero q.timeout && is_none q.txn
 
--- What is built by now; it grows with the program, and the rest is refused as no request. Leases are positive,
--- nothing waits, and there are no transactions.
+-- What is built by now; it grows with the program, and the rest is refused as no request. Nothing waits, and there are
+-- no transactions.
 abbrev pub is_built : Ask → Bool
 is_built (ask.Declare d) = true
-is_built (ask.Write w) = is_positive w.lease && is_none w.txn
+is_built (ask.Write w) = is_none w.txn
 is_built (ask.Read q) = is_plain q
 is_built (ask.Take q) = is_plain q
+is_built (ask.Renew lease ms) = true
+is_built (ask.Cancel lease) = true
+is_built (ask.RenewAll leases) = true
+is_built (ask.CancelAll leases) = true
 is_built ask.Spaces = true
 is_built ask.Bye = true
 is_built _ = false

@@ -5,7 +5,7 @@ use Rattle.serde_json.specs.Data.{Data}
 use Rattle.jsp_wire.specs.declared.ask.Ask.{Ask}
 use Rattle.jsp_wire.specs.declared.ask.Ask.TheVariants as ask
 use Rattle.jsp_wire.specs.declared.ask.Search.{Search}
-use Rattle.jsp_wire.specs.Parts.{◌>>=◌, only, text_at, number_at, optional_text_at, optional_number_at, kinds_at, entry_at, template_at}
+use Rattle.jsp_wire.specs.Parts.{◌>>=◌, only, text_at, number_at, optional_text_at, optional_number_at, numbers_at, pairs_at, kinds_at, entry_at, template_at}
 
 unfoldable pub declare_of : Data → Option Ask
 declare_of d = do
@@ -34,6 +34,32 @@ search_of d = do
   txn ← optional_number_at (codes "txn") d
   Some (record { space = space; template = template; timeout = timeout; txn = txn })
 
+unfoldable pub renew_of : Data → Option Ask
+renew_of d = do
+  _ ← only (codes "id" ∷ codes "op" ∷ codes "lease" ∷ codes "ms" ∷ []) d
+  lease ← number_at (codes "lease") d
+  ms ← number_at (codes "ms") d
+  Some (ask.Renew lease ms)
+
+unfoldable pub cancel_of : Data → Option Ask
+cancel_of d = do
+  _ ← only (codes "id" ∷ codes "op" ∷ codes "lease" ∷ []) d
+  lease ← number_at (codes "lease") d
+  Some (ask.Cancel lease)
+
+-- each lease with the time that is asked for it
+unfoldable pub renew_all_of : Data → Option Ask
+renew_all_of d = do
+  _ ← only (codes "id" ∷ codes "op" ∷ codes "leases" ∷ []) d
+  leases ← pairs_at (codes "leases") d
+  Some (ask.RenewAll leases)
+
+unfoldable pub cancel_all_of : Data → Option Ask
+cancel_all_of d = do
+  _ ← only (codes "id" ∷ codes "op" ∷ codes "leases" ∷ []) d
+  leases ← numbers_at (codes "leases") d
+  Some (ask.CancelAll leases)
+
 -- an operation without keys of its own
 unfoldable pub plain_of : Ask → Data → Option Ask
 plain_of a d = do
@@ -47,6 +73,10 @@ ask_of name d =
     else (if bytes_eq name (codes "write") then write_of d
     else (if bytes_eq name (codes "read") then option_map ask.Read (search_of d)
     else (if bytes_eq name (codes "take") then option_map ask.Take (search_of d)
+    else (if bytes_eq name (codes "renew") then renew_of d
+    else (if bytes_eq name (codes "cancel") then cancel_of d
+    else (if bytes_eq name (codes "renew_all") then renew_all_of d
+    else (if bytes_eq name (codes "cancel_all") then cancel_all_of d
     else (if bytes_eq name (codes "spaces") then plain_of ask.Spaces d
     else (if bytes_eq name (codes "bye") then plain_of ask.Bye d
-    else None)))))
+    else None)))))))))

@@ -1,8 +1,8 @@
 -- The parts of a request's object, over the value that serde_json reads.
 use Rattle.std.specs.Prelude.{◌≡◌, ℕ, ◌||◌, ℤ, pos, negsuc, List, [], ◌∷◌, Bool, false, if◌then◌else◌, Option, Some, None, option_map, Result, Ok, Err, codes}
 use Rattle.std.specs.Str.{bytes_eq}
-use Rattle.serde_json.specs.Data.{Data, null, boolean, number, string, array, object, Members, no_members, member}
-use Rattle.serde_json.specs.Find.{get, as_str, as_number, as_i64, as_object}
+use Rattle.serde_json.specs.Data.{Data, null, boolean, number, string, array, object, Items, no_items, item, Members, no_members, member}
+use Rattle.serde_json.specs.Find.{get, as_str, as_number, as_i64, as_array, as_object}
 use Rattle.jsp_types.specs.declared.value.Kind.{Kind}
 use Rattle.jsp_types.specs.declared.value.Kind.TheVariants as kind
 use Rattle.jsp_types.specs.declared.value.Value.{Value}
@@ -74,6 +74,32 @@ natural (negsuc n) = None
 -- the number of a request
 abbrev pub id_at : Data → Option ℕ
 id_at d = number_at (codes "id") d >>= natural
+
+-- ---- lists
+
+-- each item, read by read, in order
+abbrev pub each_item : {A : Type 0} → (Data → Option A) → Items → Option (List A)
+each_item read no_items = Some []
+each_item read (item d ds) = read d >>= λ x. option_map (λ xs. x ∷ xs) (each_item read ds)
+
+abbrev pub items_at : {A : Type 0} → (Data → Option A) → List ℕ → Data → Option (List A)
+items_at read k d = get k d >>= as_array >>= each_item read
+
+-- two numbers, and no third item
+abbrev pub two_numbers : Items → Option (ℤ × ℤ)
+two_numbers no_items = None
+two_numbers (item d no_items) = None
+two_numbers (item d (item e no_items)) = number_of d >>= λ x. option_map (λ y. (x, y)) (number_of e)
+two_numbers (item d (item e (item f ds))) = None
+
+abbrev pub pair_of : Data → Option (ℤ × ℤ)
+pair_of d = as_array d >>= two_numbers
+
+abbrev pub numbers_at : List ℕ → Data → Option (List ℤ)
+numbers_at k d = items_at number_of k d
+
+abbrev pub pairs_at : List ℕ → Data → Option (List (ℤ × ℤ))
+pairs_at k d = items_at pair_of k d
 
 -- ---- fields
 

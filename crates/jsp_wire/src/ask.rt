@@ -82,9 +82,16 @@ pub enum Ask {
     Take(Search),
     TakeIf(Search),
     Notify(Notify),
+    /// A lease to be renewed, by its number, for `ms` milliseconds from the renewal on, whatever was
+    /// left of it; -1 leaves the time to the server (Jini Leasing).
     Renew { lease: i64, ms: i64 },
+    /// A lease to be cancelled, by its number (Jini Leasing).
     Cancel { lease: i64 },
+    /// Leases to be renewed one by one, each by its number and for its own milliseconds, as in a
+    /// `LeaseMap` (Jini Leasing). In an `Asked` they are 1 to 64, a limit of this profile's own.
     RenewAll { leases: Items<(i64, i64)> },
+    /// Leases to be cancelled one by one, each by its number, as in a `LeaseMap` (Jini Leasing). In
+    /// an `Asked` they are 1 to 64, a limit of this profile's own.
     CancelAll { leases: Items<i64> },
     Txn { lease: i64 },
     Commit { txn: i64 },

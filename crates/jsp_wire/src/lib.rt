@@ -13,6 +13,7 @@ mod asked;
 mod fault;
 mod field;
 mod limits;
+mod list;
 mod read;
 
 pub use ask::{

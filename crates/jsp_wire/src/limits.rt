@@ -33,9 +33,13 @@ fn is_built(ask: &Ask) -> bool
 {
     match ask {
         Ask::Declare(_) => true,
-        Ask::Write(write) => 0 < write.lease && write.txn.is_none(),
+        Ask::Write(write) => write.txn.is_none(),
         Ask::Read(search) => is_plain(search),
         Ask::Take(search) => is_plain(search),
+        Ask::Renew { .. } => true,
+        Ask::Cancel { .. } => true,
+        Ask::RenewAll { .. } => true,
+        Ask::CancelAll { .. } => true,
         Ask::Spaces => true,
         Ask::Bye => true,
         _ => false,

@@ -2,7 +2,7 @@
 ghost use Rattle.std.specs.Prelude.{Some};
 ghost use Rattle.serde_json.specs.View.{view};
 ghost use Rattle.jsp_wire.specs.Parts.{Gives};
-ghost use Rattle.jsp_wire.specs.Operations.{declare_of, write_of, search_of, plain_of, ask_of};
+ghost use Rattle.jsp_wire.specs.Operations.{declare_of, write_of, search_of, renew_of, cancel_of, renew_all_of, cancel_all_of, plain_of, ask_of};
 ghost use Rattle.jsp_wire.specs.Reading.{Answers, Parses, json_of, request_of, reading_of, reading};
 
 use crate::fault::{Flaw, WireFault};
@@ -10,6 +10,7 @@ use crate::field::{
     entry_at, id_at, kinds_at, number_at, only, optional_number_at, optional_text_at, template_at,
     text_at,
 };
+use crate::list::{numbers_at, pairs_at};
 use crate::{Ask, Asked, Declare, Request, Search, Write};
 use serde_json::Value as Json;
 use std::alloc::Global;
@@ -63,6 +64,43 @@ fn search(alloc: Global, json: &Json) -> Result<Search, Flaw>
     })
 }
 
+#[tactic(auto, unfolding(crate::specs::Operations::renew_of))]
+fn renew(json: &Json) -> Result<Ask, Flaw>
+    ensures { Gives result (renew_of (view json.now)) }
+{
+    only(json, &["id", "op", "lease", "ms"])?;
+    let lease = number_at(json, "lease")?;
+    let ms = number_at(json, "ms")?;
+    Ok(Ask::Renew { lease, ms })
+}
+
+#[tactic(auto, unfolding(crate::specs::Operations::cancel_of))]
+fn cancel(json: &Json) -> Result<Ask, Flaw>
+    ensures { Gives result (cancel_of (view json.now)) }
+{
+    only(json, &["id", "op", "lease"])?;
+    let lease = number_at(json, "lease")?;
+    Ok(Ask::Cancel { lease })
+}
+
+#[tactic(auto, unfolding(crate::specs::Operations::renew_all_of))]
+fn renew_all(alloc: Global, json: &Json) -> Result<Ask, Flaw>
+    ensures { Gives result (renew_all_of (view json.now)) }
+{
+    only(json, &["id", "op", "leases"])?;
+    let leases = pairs_at(alloc, json, "leases")?;
+    Ok(Ask::RenewAll { leases })
+}
+
+#[tactic(auto, unfolding(crate::specs::Operations::cancel_all_of))]
+fn cancel_all(alloc: Global, json: &Json) -> Result<Ask, Flaw>
+    ensures { Gives result (cancel_all_of (view json.now)) }
+{
+    only(json, &["id", "op", "leases"])?;
+    let leases = numbers_at(alloc, json, "leases")?;
+    Ok(Ask::CancelAll { leases })
+}
+
 /// An operation without keys of its own.
 #[tactic(auto, unfolding(crate::specs::Operations::plain_of))]
 fn plain(json: &Json, ask: Ask) -> Result<Ask, Flaw>
@@ -81,6 +119,10 @@ fn ask(alloc: Global, name: &str, json: &Json) -> Result<Ask, Flaw>
         "write" => write(alloc, json),
         "read" => Ok(Ask::Read(search(alloc, json)?)),
         "take" => Ok(Ask::Take(search(alloc, json)?)),
+        "renew" => renew(json),
+        "cancel" => cancel(json),
+        "renew_all" => renew_all(alloc, json),
+        "cancel_all" => cancel_all(alloc, json),
         "spaces" => plain(json, Ask::Spaces),
         "bye" => plain(json, Ask::Bye),
         _ => Err(Flaw::Refused),
@@ -130,8 +172,9 @@ fn request_or_fault(alloc: Global, json: &Json) -> Result<Asked, WireFault>
 ///
 /// A payload is JSON (RFC 8259) as serde_json reads it, nested at most 127 deep. A request is an
 /// object with `id`, `op` and the keys of its operation and no other; `txn` and `parent` may be
-/// absent or null. Its limits are those of [`Asked`]. The operations, their keys and these limits
-/// are this profile's own.
+/// absent or null. `leases` is a list, of numbers to cancel them and of pairs `[lease, ms]` to renew
+/// them; a pair is an array of exactly two numbers. Its limits are those of [`Asked`]. The
+/// operations, their keys and these limits are this profile's own.
 #[tactic(auto, unfolding(crate::specs::Reading::reading))]
 pub fn read_ask(alloc: Global, payload: &[u8]) -> Result<Asked, WireFault>
     ensures { Answers result (reading payload.now) }

@@ -2,6 +2,8 @@ use crate::{Ask, Asked, Declare, Search, WireFault, Write, read_ask};
 use jsp_types::{Kind, Raw, Value};
 use std::test::Fail;
 
+mod leases;
+
 // What a payload is: its id and its operation's words, or its refusal and the refusal's id.
 fn shows(rt: &HostRuntime, payload: &[u8]) -> Result<String, Fail> {
     match read_ask(rt.alloc(), payload) {
@@ -34,6 +36,10 @@ fn asks(rt: &HostRuntime, ask: &Ask) -> Result<String, Fail> {
         Ask::Write(write) => writes(rt, write),
         Ask::Read(search) => searches(rt, "read", search),
         Ask::Take(search) => searches(rt, "take", search),
+        Ask::Renew { lease, ms } => Ok(format!(in rt.alloc(); "renew {lease} for {ms}")?),
+        Ask::Cancel { lease } => Ok(format!(in rt.alloc(); "cancel {lease}")?),
+        Ask::RenewAll { leases } => renews_all(rt, leases.as_slice()),
+        Ask::CancelAll { leases } => cancels_all(rt, leases.as_slice()),
         Ask::Spaces => words(rt, "spaces"),
         Ask::Bye => words(rt, "bye"),
         _ => words(rt, "another"),
@@ -75,6 +81,22 @@ fn writes(rt: &HostRuntime, write: &Write) -> Result<String, Fail> {
 fn searches(rt: &HostRuntime, verb: &str, search: &Search) -> Result<String, Fail> {
     let like = template(rt, &search.template)?;
     Ok(format!(in rt.alloc(); "{verb} {} {like}", search.space.as_str())?)
+}
+
+fn renews_all(rt: &HostRuntime, leases: &[(i64, i64)]) -> Result<String, Fail> {
+    let mut text = words(rt, "renew_all")?;
+    for (lease, ms) in leases {
+        text.push_str(format!(in rt.alloc(); " {lease} for {ms}")?.as_str())?;
+    }
+    Ok(text)
+}
+
+fn cancels_all(rt: &HostRuntime, leases: &[i64]) -> Result<String, Fail> {
+    let mut text = words(rt, "cancel_all")?;
+    for lease in leases {
+        text.push_str(format!(in rt.alloc(); " {lease}")?.as_str())?;
+    }
+    Ok(text)
 }
 
 fn template(rt: &HostRuntime, template: &Option<Raw>) -> Result<String, Fail> {
@@ -139,6 +161,18 @@ fn requests_that_are_built(rt: HostRuntime) -> Result<(), Fail> {
             (
                 r#"{"id":2,"op":"write","space":"","entry":{"class":"","fields":{}},"lease":9223372036854775807,"txn":null}"#,
                 "2 write   for 9223372036854775807",
+            ),
+            (
+                r#"{"id":2,"op":"write","space":"a","entry":{"class":"J","fields":{}},"lease":0}"#,
+                "2 write a J for 0",
+            ),
+            (
+                r#"{"id":2,"op":"write","space":"a","entry":{"class":"J","fields":{}},"lease":-1}"#,
+                "2 write a J for -1",
+            ),
+            (
+                r#"{"id":2,"op":"write","space":"a","entry":{"class":"J","fields":{}},"lease":-9223372036854775808}"#,
+                "2 write a J for -9223372036854775808",
             ),
             (
                 r#"{"id":3,"op":"take","space":"a","template":null,"timeout":0}"#,
@@ -323,14 +357,6 @@ fn what_is_not_built_yet(rt: HostRuntime) -> Result<(), Fail> {
         &rt,
         &[
             (
-                r#"{"id":5,"op":"write","space":"a","entry":{"class":"J","fields":{}},"lease":0}"#,
-                "5 refused 2",
-            ),
-            (
-                r#"{"id":5,"op":"write","space":"a","entry":{"class":"J","fields":{}},"lease":-1}"#,
-                "5 refused 2",
-            ),
-            (
                 r#"{"id":5,"op":"write","space":"a","entry":{"class":"J","fields":{}},"lease":1,"txn":3}"#,
                 "5 refused 2",
             ),
@@ -350,13 +376,35 @@ fn what_is_not_built_yet(rt: HostRuntime) -> Result<(), Fail> {
                 r#"{"id":5,"op":"read_if","space":"a","template":null,"timeout":0}"#,
                 "5 refused 2",
             ),
-            (r#"{"id":5,"op":"cancel","lease":1}"#, "5 refused 2"),
             (
-                r#"{"id":5,"op":"renew_all","leases":[[1,2]]}"#,
+                r#"{"id":5,"op":"take_if","space":"a","template":null,"timeout":0}"#,
+                "5 refused 2",
+            ),
+            (
+                r#"{"id":5,"op":"notify","space":"a","template":null,"lease":1,"handback":"h"}"#,
                 "5 refused 2",
             ),
             (r#"{"id":5,"op":"txn","lease":1}"#, "5 refused 2"),
+            (r#"{"id":5,"op":"commit","txn":1}"#, "5 refused 2"),
+            (r#"{"id":5,"op":"abort","txn":1}"#, "5 refused 2"),
+            (r#"{"id":5,"op":"state","txn":1}"#, "5 refused 2"),
+            (r#"{"id":5,"op":"reset","space":"a"}"#, "5 refused 2"),
+            (r#"{"id":5,"op":"hello","version":1}"#, "5 refused 2"),
             (r#"{"id":5,"op":"hello","version":2}"#, "5 refused 2"),
+            (
+                r#"{"id":5,"op":"write_all","space":"a","entries":[{"class":"J","fields":{}}],"lease":1}"#,
+                "5 refused 2",
+            ),
+            (
+                r#"{"id":5,"op":"take_many","space":"a","templates":[null],"most":1,"timeout":0}"#,
+                "5 refused 2",
+            ),
+            (
+                r#"{"id":5,"op":"contents","space":"a","template":null,"lease":1}"#,
+                "5 refused 2",
+            ),
+            (r#"{"id":5,"op":"next","set":1,"most":1}"#, "5 refused 2"),
+            (r#"{"id":5,"op":"close_set","set":1}"#, "5 refused 2"),
         ],
     )?;
     assert_eq!(rt; differing.as_str(), "");

@@ -1,12 +1,11 @@
 //! A session's bytes, however they are cut.
-use super::two_spaces;
-use jsp_drive::{Act, Driven, drive};
-use jsp_frame::frame;
-use jsp_rows::RowsHouse;
+use super::driving::{driven, frames, piece, sent, sent_in_two};
+use jsp_drive::Act;
 use std::alloc::Global;
 use std::test::Fail;
 
-const PAYLOADS: [&str; 5] = [
+// The requests of the first example, a second take, and what is no JSON.
+pub(super) const PAYLOADS: [&str; 5] = [
     r#"{"id":1,"op":"declare","class":"Job","fields":{"k":"int","who":"text"}}"#,
     r#"{"id":2,"op":"write","space":"a","entry":{"class":"Job","fields":{"k":1}},"lease":1000}"#,
     r#"{"id":3,"op":"take","space":"a","template":{"class":"Job","fields":{"k":1}},"timeout":0}"#,
@@ -14,7 +13,7 @@ const PAYLOADS: [&str; 5] = [
     "{",
 ];
 
-const ANSWERS: [&str; 5] = [
+pub(super) const ANSWERS: [&str; 5] = [
     r#"{"id":1,"ok":null}"#,
     r#"{"id":2,"ok":{"lease":1,"ms":1000}}"#,
     r#"{"id":3,"ok":{"class":"Job","fields":{"k":1,"who":null}}}"#,
@@ -22,45 +21,26 @@ const ANSWERS: [&str; 5] = [
     r#"{"fault":1,"id":null}"#,
 ];
 
-fn framed(alloc: Global, payloads: &[&str]) -> Result<Vec<u8>, Fail> {
-    let mut bytes = Vec::new(alloc);
-    for payload in payloads {
-        if payload.len() < 65_536 {
-            bytes.extend_from_slice(frame(alloc, payload.as_bytes())?.as_slice())?;
-        }
-    }
-    Ok(bytes)
-}
+// Another session's requests. Its write ends later in its stream than that of the first.
+const OTHER_PAYLOADS: [&str; 4] = [
+    r#"{"id":1,"op":"spaces"}"#,
+    r#"{"id":2,"op":"declare","class":"Car","fields":{"wheels":"int"}}"#,
+    r#"{"id":3,"op":"write","space":"b","entry":{"class":"Car","fields":{"wheels":4}},"lease":2000}"#,
+    r#"{"id":4,"op":"read","space":"b","template":null,"timeout":0}"#,
+];
 
-// Session 1 sends the bytes, cut into pieces of so many, and is shut.
-fn acts(alloc: Global, bytes: &[u8], cut: usize) -> Result<Vec<Act>, Fail> {
-    let mut acts = Vec::new(alloc);
-    acts.push(Act::Open { session: 1 })?;
-    for piece in bytes.chunks(cut.max(1)) {
-        let bytes = Vec::from_slice(alloc, piece)?;
-        acts.push(Act::Piece { session: 1, bytes })?;
-    }
-    acts.push(Act::Shut { session: 1 })?;
-    Ok(acts)
-}
-
-fn driven(alloc: Global, acts: &[Act]) -> Result<Driven, Fail> {
-    let config = two_spaces(alloc)?;
-    let house = RowsHouse::new(alloc, &config)?;
-    Ok(drive(alloc, house, &config, acts)?)
-}
-
-// The bytes that session 1 is sent.
-fn sent(alloc: Global, bytes: &[u8], cut: usize) -> Result<Vec<u8>, Fail> {
-    let acts = acts(alloc, bytes, cut)?;
-    Ok(driven(alloc, acts.as_slice())?.bytes_of(alloc, 1)?)
-}
+const OTHER_ANSWERS: [&str; 4] = [
+    r#"{"id":1,"ok":["a","b"]}"#,
+    r#"{"id":2,"ok":null}"#,
+    r#"{"id":3,"ok":{"lease":2,"ms":2000}}"#,
+    r#"{"id":4,"ok":{"class":"Car","fields":{"wheels":4}}}"#,
+];
 
 #[test]
 fn cuts_do_not_matter(rt: HostRuntime) -> Result<(), Fail> {
     let alloc = rt.alloc();
-    let asked = framed(alloc, PAYLOADS.as_slice())?;
-    let answers = framed(alloc, ANSWERS.as_slice())?;
+    let asked = frames(alloc, PAYLOADS.as_slice())?;
+    let answers = frames(alloc, ANSWERS.as_slice())?;
     for cut in [1, 2, 3, 7, 64, 100_000] {
         let bytes = sent(alloc, asked.as_slice(), cut)?;
         assert!(rt; bytes.as_slice() == answers.as_slice(), "pieces of {cut}");
@@ -69,9 +49,54 @@ fn cuts_do_not_matter(rt: HostRuntime) -> Result<(), Fail> {
 }
 
 #[test]
+fn a_stream_may_be_cut_in_two_anywhere(rt: HostRuntime) -> Result<(), Fail> {
+    let alloc = rt.alloc();
+    let asked = frames(alloc, PAYLOADS.as_slice())?;
+    let answers = frames(alloc, ANSWERS.as_slice())?;
+    for cut in 0..=asked.len() {
+        let (first, second) = asked
+            .as_slice()
+            .split_at_checked(cut)
+            .ok_or("no such place")?;
+        let bytes = sent_in_two(alloc, first, second)?;
+        assert!(rt; bytes.as_slice() == answers.as_slice(), "cut at {cut}");
+    }
+    Ok(())
+}
+
+// Sessions 1 and 2 send a byte each in turn, as long as they have any.
+fn in_turn(alloc: Global, one: &[u8], other: &[u8]) -> Result<Vec<Act>, Fail> {
+    let mut acts = Vec::new(alloc);
+    acts.push(Act::Open { session: 1 })?;
+    acts.push(Act::Open { session: 2 })?;
+    for place in 0..one.len().max(other.len()) {
+        for (session, bytes) in [(1, one), (2, other)] {
+            if let Some(byte) = bytes.get(place) {
+                acts.push(piece(alloc, session, &[*byte])?)?;
+            }
+        }
+    }
+    Ok(acts)
+}
+
+#[test]
+fn sessions_whose_bytes_come_in_turn_get_their_own_answers(rt: HostRuntime) -> Result<(), Fail> {
+    let alloc = rt.alloc();
+    let one = frames(alloc, PAYLOADS.as_slice())?;
+    let other = frames(alloc, OTHER_PAYLOADS.as_slice())?;
+    let acts = in_turn(alloc, one.as_slice(), other.as_slice())?;
+    let driven = driven(alloc, acts.as_slice())?;
+    let answers = frames(alloc, ANSWERS.as_slice())?;
+    let other_answers = frames(alloc, OTHER_ANSWERS.as_slice())?;
+    assert!(rt; driven.bytes_of(alloc, 1)?.as_slice() == answers.as_slice());
+    assert!(rt; driven.bytes_of(alloc, 2)?.as_slice() == other_answers.as_slice());
+    Ok(())
+}
+
+#[test]
 fn an_answer_is_its_length_and_its_text(rt: HostRuntime) -> Result<(), Fail> {
     let alloc = rt.alloc();
-    let asked = framed(alloc, &[PAYLOADS[0]])?;
+    let asked = frames(alloc, &[PAYLOADS[0]])?;
     let bytes = sent(alloc, asked.as_slice(), 1)?;
     assert!(rt; bytes.as_slice() == b"\x00\x00\x00\x12{\"id\":1,\"ok\":null}".as_slice());
     Ok(())
@@ -88,8 +113,8 @@ fn an_unfinished_frame_is_not_answered(rt: HostRuntime) -> Result<(), Fail> {
 fn a_frame_past_the_limit_closes_the_session(rt: HostRuntime) -> Result<(), Fail> {
     let alloc = rt.alloc();
     let mut asked = Vec::from_slice(alloc, &[0, 1, 0, 1])?;
-    asked.extend_from_slice(framed(alloc, &[PAYLOADS[0]])?.as_slice())?;
-    let answer = framed(alloc, &[r#"{"fault":21,"id":null}"#])?;
+    asked.extend_from_slice(frames(alloc, &[PAYLOADS[0]])?.as_slice())?;
+    let answer = frames(alloc, &[r#"{"fault":21,"id":null}"#])?;
     let bytes = sent(alloc, asked.as_slice(), 1)?;
     assert!(rt; bytes.as_slice() == answer.as_slice());
     Ok(())

@@ -1,6 +1,6 @@
 use Rattle.std.proofs.Common.{◌≡◌, ◌≤◌, ◌<◌, ap, sym, ◌∙◌, arith, length, drop}
 use Rattle.jsp_audit.proofs.Ending.{first_more, due_rows, due_items}
-use Rattle.jsp_model.specs.Due.{first_item}
+use Rattle.jsp_lease.specs.Due.{first_item}
 use Rattle.jsp_audit.proofs.ends.due.Goals as goal
 
 pub rows-preserved-then-row-time : goal.rows-preserved-then-row-time

@@ -1,7 +1,7 @@
 use Rattle.std.proofs.Common.{◌≡◌, ◌≤◌, length, drop, nat_le}
 use Rattle.std.specs.Prelude.{map, filter}
-use Rattle.jsp_model.specs.declared.step.Item.{Item}
-use Rattle.jsp_model.specs.Due.{first_item}
+use Rattle.jsp_lease.specs.declared.item.Item.{Item}
+use Rattle.jsp_lease.specs.Due.{first_item}
 use Rattle.jsp_audit.specs.Time.{row_item}
 use Rattle.jsp_audit.proofs.ends.due.Given as goal
 

@@ -1,0 +1,5 @@
+pub mod Due
+pub mod Granted
+pub mod Leases
+pub mod Tournament
+pub mod Places

@@ -1,0 +1,32 @@
+//! Why a lease is refused.
+use std::alloc::AllocError;
+use thiserror::Error;
+
+/// Why a lease isn't renewed or cancelled.
+#[derive(Clone, Copy, Debug, Drop, Error, PartialEq, Eq)]
+pub enum LeaseFault {
+    #[error("no lease has this number")]
+    UnknownLease,
+    #[error("nothing is granted for this time")]
+    BadLease,
+}
+
+/// Why a lease isn't granted.
+#[derive(Clone, Copy, Debug, Drop, Error, PartialEq, Eq)]
+pub enum GrantFault {
+    #[error("nothing is granted for this time")]
+    BadLease,
+    #[error("out of memory")]
+    NoMemory,
+}
+
+impl From<AllocError> for GrantFault {
+    ghost use Rattle.std.specs.Prelude.{◌≡◌};
+    ghost use Rattle.jsp_lease.specs.declared.fault.GrantFault.TheVariants.{NoMemory};
+
+    ghost from_gives = { λ _ fault. fault ≡ NoMemory };
+
+    fn from(_error: AllocError) -> GrantFault {
+        GrantFault::NoMemory
+    }
+}

@@ -1,0 +1,50 @@
+//! What has an end.
+ghost use Rattle.std.specs.Prelude.{◌≡◌};
+ghost use Rattle.jsp_lease.specs.Due.{is_before as comes_before, rank_number as place_of_rank};
+
+/// What kind of thing an item is, in the order in which items of one end come. The order is this
+/// profile's own.
+#[derive(Clone, Copy, Debug, PartialEq, Eq)]
+pub enum Rank {
+    Entry,
+    Registration,
+    Transaction,
+    Blocked,
+    MatchSet,
+}
+
+/// Something that has an end, in milliseconds of the house's clock. Its number is its own in the
+/// house, whatever its rank.
+#[derive(Clone, Copy, Debug, PartialEq, Eq)]
+pub struct Item {
+    pub end: u64,
+    pub rank: Rank,
+    pub number: u64,
+}
+
+/// By end, then rank, then number.
+pub(crate) fn is_before(a: Item, b: Item) -> bool
+    ensures { result ≡ comes_before a b }
+{
+    if a.end != b.end {
+        return a.end < b.end;
+    }
+    let rank = rank_number(a.rank);
+    let other = rank_number(b.rank);
+    if rank != other {
+        return rank < other;
+    }
+    a.number < b.number
+}
+
+fn rank_number(rank: Rank) -> u8
+    ensures { result ≡ place_of_rank rank }
+{
+    match rank {
+        Rank::Entry => 0,
+        Rank::Registration => 1,
+        Rank::Transaction => 2,
+        Rank::Blocked => 3,
+        Rank::MatchSet => 4,
+    }
+}

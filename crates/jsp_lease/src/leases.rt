@@ -1,0 +1,255 @@
+//! The items of a house, by number and by end.
+ghost use Rattle.std.specs.Prelude.{◌≡◌, ◌+◌, ◌-◌, ◌^◌, ◌<◌, ◌≤◌, ◌↔◌, [], ◌++◌, IsOk, IsSome, IfOk, OnOk, OnErr, IfNone, IfSome, ok_or, length, vec_capacity, map, replicate};
+ghost use Rattle.jsp_lease.specs.declared.item.Item.{Item};
+ghost use Rattle.jsp_lease.specs.Leases.{item_numbered};
+ghost use Rattle.jsp_lease.specs.Places.{AreKept, StandsAt};
+ghost use Rattle.jsp_lease.specs.Tournament.{living};
+
+use crate::tournament::Tournament;
+use crate::{GrantFault, Item, LeaseFault, NoMemory, Rank, granted};
+use std::alloc::Global;
+use std::marker::Model;
+
+/// The items of a house, found by number and by end.
+///
+/// Contracts see the items in rising order of their numbers, the last number that was given, and
+/// the room: how many items can be added before memory is asked for. An item is renewed or cancelled
+/// whatever its rank is; whether its number may be used so is for the caller to know.
+///
+/// Each number keeps its place in a row once its item has gone, so a place is found by a binary
+/// search. Where the row is full, the next item moves the living to a new row of at least twice
+/// their number. So a call takes time by the logarithm of the number of places: at most twice the
+/// items that there were when the row was made, or those and the room that was asked for.
+#[derive(Drop)]
+pub struct Leases {
+    numbers: Vec<u64>,
+    tournament: Tournament,
+    last: u64,
+}
+
+impl Model for Leases {
+    ghost use Rattle.std.specs.Prelude.{◌-◌, length, vec_capacity};
+    ghost use Rattle.jsp_lease.specs.Leases.{Leased};
+    ghost use Rattle.jsp_lease.specs.Tournament.{living};
+    ghost use Rattle.jsp_lease.specs.Places.{AreRoomy};
+
+    ghost Value = { Leased };
+
+    ghost view = { λ s. record {
+      items = living s.tournament;
+      last = s.last;
+      room = length s.tournament - length s.numbers.items;
+    } };
+
+    ghost invariant = { λ s. AreRoomy s.numbers.items s.tournament s.last (vec_capacity s.numbers) };
+}
+
+/// The fewest new places that memory is asked for at a time.
+const FEWEST_NEW: usize = 8;
+
+/// More new places than any memory has.
+const TOO_MANY_NEW: usize = 1 << 48;
+
+impl Leases {
+    ghost use Rattle.jsp_lease.specs.Due.{first_item, over_by};
+    ghost use Rattle.jsp_lease.specs.Granted.{granted as granted_of};
+    ghost use Rattle.jsp_lease.specs.Leases.{with_items, ending_at, without, renewal, AreNumbered, Adds, HasRoomFor};
+
+    /// No items, and no number given. It takes no memory.
+    pub fn new(alloc: Global) -> Leases
+        ensures { result ≡ record { items = []; last = 0; room = 0 } }
+    {
+        Leases {
+            numbers: Vec::new(alloc),
+            tournament: Tournament::new(alloc),
+            last: 0,
+        }
+    }
+
+    /// The last number that was given, or 0. It stays where its item goes.
+    pub fn last(&self) -> u64
+        ensures value { result ≡ self.now.last }
+        ensures numbered { AreNumbered self.now }
+    {
+        self.last
+    }
+
+    /// Grants a lease of the asked time in milliseconds, from the time of the house on, and answers
+    /// what it grants. The number is above all that were given, and the time at most 2^62 ms, so the
+    /// end is at most 2^62 + 3,600,000.
+    ///
+    /// `BadLease` where nothing is granted (this profile's own), and `NoMemory`, which doesn't come
+    /// while there is room. Either leaves all as it was.
+    pub fn grant(&mut self, number: u64, rank: Rank, time: u64, ms: i64) -> Result<u64, GrantFault>
+        requires later { self.old.last < number }
+        requires in_time { time ≤ 2 ^ 62 }
+        ensures refused { (result ≡ Err GrantFault.BadLease) ↔ (granted_of ms ≡ None) }
+        ensures ok { IfOk result (λ given. (granted_of ms ≡ Some given)
+            × Adds self.old (record { end = time + given; rank = rank; number = number }) self.new) }
+        ensures err { OnErr result (self.new ≡ self.old) }
+        ensures roomy { 0 < self.old.room → IsSome (granted_of ms) → IsOk result }
+    {
+        let Some(given) = granted(ms) else {
+            return Err(GrantFault::BadLease);
+        };
+        self.place(Item {
+            end: time + given,
+            rank,
+            number,
+        })?;
+        Ok(given)
+    }
+
+    /// Adds an item whose end is known, which may be any time. The number is above all that were
+    /// given. `NoMemory`, which doesn't come while there is room, leaves all as it was.
+    pub fn place(&mut self, item: Item) -> Result<(), NoMemory>
+        requires { self.old.last < item.number }
+        ensures ok { IfOk result (λ _. Adds self.old item self.new) }
+        ensures err { OnErr result (self.new ≡ self.old) }
+        ensures roomy { 0 < self.old.room → IsOk result }
+    {
+        self.reserve(1)?;
+        let place = self.numbers.len();
+        self.numbers.push(item.number)?;
+        self.tournament.set(place, Some(item));
+        self.last = item.number;
+        Ok(())
+    }
+
+    /// Makes room for so many items, so that the calls that add them can't fail. Where the room is
+    /// there it takes no memory. `NoMemory` leaves all as it was.
+    pub fn reserve(&mut self, count: usize) -> Result<(), NoMemory>
+        ensures ok { IfOk result (λ _. HasRoomFor self.old count self.new) }
+        ensures err { OnErr result (self.new ≡ self.old) }
+        ensures roomy { count ≤ self.old.room → IsOk result × (self.new ≡ self.old) }
+    {
+        if count <= self.tournament.len() - self.numbers.len() {
+            return Ok(());
+        }
+        *self = self.with_room(count)?;
+        Ok(())
+    }
+
+    /// The same items, with room for so many more.
+    fn with_room(&self, count: usize) -> Result<Leases, NoMemory>
+        ensures { IfOk result (λ copy. (copy.items ≡ self.now.items) × (copy.last ≡ self.now.last) × (count ≤ copy.room)) }
+    {
+        let alloc = *self.numbers.allocator();
+        let items = living_of(alloc, self.tournament.as_slice())?;
+        // At least as many as there are items, so that moving them is paid by those to come.
+        let spare = count.max(items.len()).max(FEWEST_NEW);
+        if spare >= TOO_MANY_NEW {
+            return Err(NoMemory);
+        }
+        let places = items.len() + spare;
+        Ok(Leases {
+            numbers: numbers_of(alloc, items.as_slice(), places)?,
+            tournament: tournament_of(alloc, items.as_slice(), places)?,
+            last: self.last,
+        })
+    }
+
+    /// Renews a lease: it ends after the asked time in milliseconds from the time of the house on,
+    /// as granted, whatever was left of it (Jini Leasing). Answers what it grants. The time is at most
+    /// 2^62 ms. It takes no memory.
+    ///
+    /// `UnknownLease` comes before `BadLease`, where nothing is granted (this profile's own). Either
+    /// leaves all as it was.
+    pub fn renew(&mut self, number: u64, time: u64, ms: i64) -> Result<u64, LeaseFault>
+        requires { time ≤ 2 ^ 62 }
+        ensures answer { result ≡ renewal (item_numbered number self.old.items) (granted_of ms) }
+        ensures ok { IfOk result (λ given. self.new
+            ≡ with_items self.old (ending_at number (time + given) self.old.items)) }
+        ensures err { OnErr result (self.new ≡ self.old) }
+    {
+        let numbers = self.numbers.as_slice();
+        let Some((place, item)) = find_place(numbers, &self.tournament, number) else {
+            return Err(LeaseFault::UnknownLease);
+        };
+        let Some(given) = granted(ms) else {
+            return Err(LeaseFault::BadLease);
+        };
+        let end = time + given;
+        self.tournament.set(place, Some(Item { end, ..item }));
+        Ok(given)
+    }
+
+    /// Cancels a lease: its item goes before its end (Jini Leasing), and is answered.
+    /// `UnknownLease` where there is none. It takes no memory.
+    pub fn cancel(&mut self, number: u64) -> Result<Item, LeaseFault>
+        ensures answer { result ≡ ok_or (item_numbered number self.old.items) LeaseFault.UnknownLease }
+        ensures ok { OnOk result (self.new ≡ with_items self.old (without number self.old.items)) }
+        ensures err { OnErr result (self.new ≡ self.old) }
+    {
+        let numbers = self.numbers.as_slice();
+        let Some((place, item)) = find_place(numbers, &self.tournament, number) else {
+            return Err(LeaseFault::UnknownLease);
+        };
+        self.tournament.set(place, None);
+        Ok(item)
+    }
+
+    /// The item of this number, if it is there.
+    pub fn find(&self, number: u64) -> Option<Item>
+        ensures { result ≡ item_numbered number self.now.items }
+    {
+        let numbers = self.numbers.as_slice();
+        let (_, item) = find_place(numbers, &self.tournament, number)?;
+        Some(item)
+    }
+
+    /// The item that is due at this time: the first, by end, then rank, then number, of those whose
+    /// end isn't later. A lease is over as soon as its end has come (Jini Leasing); which comes first
+    /// is this profile's own. It takes no memory.
+    pub fn due(&self, time: u64) -> Option<Item>
+        ensures { result ≡ first_item (over_by time self.now.items) }
+    {
+        self.tournament.first().filter(|item| item.end <= time)
+    }
+}
+
+/// The place of the item of this number, and the item.
+fn find_place(numbers: &[u64], tournament: &Tournament, number: u64) -> Option<(usize, Item)>
+    requires { AreKept numbers.now tournament.now }
+    ensures some { IfSome result (λ found. StandsAt number tournament.now found.0 found.1) }
+    ensures none { IfNone result (item_numbered number (living tournament.now) ≡ None) }
+{
+    let Ok(place) = numbers.binary_search(&number) else {
+        return None;
+    };
+    let item = tournament.get(place)?;
+    Some((place, item))
+}
+
+/// The items that stand at these places.
+fn living_of(alloc: Global, places: &[Option<Item>]) -> Result<Vec<Item>, NoMemory>
+    ensures { IfOk result (λ items. items.items ≡ living places.now) }
+{
+    places.iter().filter_map(|place| *place).collect(alloc)
+}
+
+/// The numbers of the items, in a vector with memory for so many places.
+fn numbers_of(alloc: Global, items: &[Item], places: usize) -> Result<Vec<u64>, NoMemory>
+    ensures numbers { IfOk result (λ numbers. numbers.items ≡ map (λ (i : Item). i.number) items.now) }
+    ensures room { IfOk result (λ numbers. places ≤ vec_capacity numbers) }
+{
+    let mut numbers = Vec::with_capacity(alloc, places)?;
+    for item in items {
+        numbers.push(item.number)?;
+    }
+    Ok(numbers)
+}
+
+/// The items at the first of so many places. The others are empty.
+fn tournament_of(alloc: Global, items: &[Item], places: usize) -> Result<Tournament, NoMemory>
+    requires fits { length items.now ≤ places }
+    requires limited { places < 2 ^ 62 }
+    ensures { IfOk result (λ tournament. tournament ≡ map Some items.now ++ replicate (places - length items.now) None) }
+{
+    let mut row = Vec::with_capacity(alloc, places)?;
+    for item in items {
+        row.push(Some(*item))?;
+    }
+    row.resize(places, None)?;
+    Tournament::of(alloc, row.as_slice())
+}

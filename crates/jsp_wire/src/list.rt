@@ -1,0 +1,75 @@
+//! The lists of a request's object.
+ghost use Rattle.serde_json.specs.View.{view, items_view};
+ghost use Rattle.jsp_wire.specs.Parts.{Gives, number_of, each_item, two_numbers, pair_of, numbers_at, pairs_at};
+
+use crate::fault::Flaw;
+use jsp_types::Items;
+use serde_json::Value as Json;
+use std::alloc::Global;
+
+fn number(json: &Json) -> Result<i64, Flaw>
+    ensures { Gives result (number_of (view json.now)) }
+{
+    json.as_i64().ok_or(Flaw::Refused)
+}
+
+fn numbers(alloc: Global, items: &[Json]) -> Result<Items<i64>, Flaw>
+    ensures { Gives result (each_item number_of (items_view items.now)) }
+{
+    let mut found = Items::new(alloc);
+    for json in items {
+        let number = number(json)?;
+        found.push(number)?;
+    }
+    Ok(found)
+}
+
+/// The numbers of the list at a key.
+pub(crate) fn numbers_at(alloc: Global, json: &Json, name: &str) -> Result<Items<i64>, Flaw>
+    ensures { Gives result (numbers_at name.now (view json.now)) }
+{
+    match json.get(name).and_then(Json::as_array) {
+        None => Err(Flaw::Refused),
+        Some(items) => numbers(alloc, items),
+    }
+}
+
+#[tactic(auto, using(crate::proofs::Pair::too_few, crate::proofs::Pair::too_many))]
+fn two_numbers(items: &[Json]) -> Result<(i64, i64), Flaw>
+    ensures { Gives result (two_numbers (items_view items.now)) }
+{
+    match items {
+        [first, second] => Ok((number(first)?, number(second)?)),
+        _ => Err(Flaw::Refused),
+    }
+}
+
+fn pair(json: &Json) -> Result<(i64, i64), Flaw>
+    ensures { Gives result (pair_of (view json.now)) }
+{
+    match json.as_array() {
+        None => Err(Flaw::Refused),
+        Some(items) => two_numbers(items),
+    }
+}
+
+fn pairs(alloc: Global, items: &[Json]) -> Result<Items<(i64, i64)>, Flaw>
+    ensures { Gives result (each_item pair_of (items_view items.now)) }
+{
+    let mut found = Items::new(alloc);
+    for json in items {
+        let pair = pair(json)?;
+        found.push(pair)?;
+    }
+    Ok(found)
+}
+
+/// The pairs of numbers of the list at a key, each an array of exactly two.
+pub(crate) fn pairs_at(alloc: Global, json: &Json, name: &str) -> Result<Items<(i64, i64)>, Flaw>
+    ensures { Gives result (pairs_at name.now (view json.now)) }
+{
+    match json.get(name).and_then(Json::as_array) {
+        None => Err(Flaw::Refused),
+        Some(items) => pairs(alloc, items),
+    }
+}
