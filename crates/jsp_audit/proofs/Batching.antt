@@ -53,9 +53,9 @@ pub renewal_apart : (st : State) (ls : List (ℤ × ℤ)) (l : ℤ × ℤ) → I
 renewal_apart st ls l h =
     let after = numbers_renewed st ls h in
     let same : number_tests (fold renew_one st ls) l.0 ≡ number_tests st l.0 =
-        tests_are (fold renew_one st ls) l.0 after.limits
-        ∙ (ap (λ (ns : List ℕ). (is_none (cond (contains ns (named l.0)) (Some rank.Entry) None), refusals.UnknownLease) ∷ (false, refusals.NotActive) ∷ []) after.numbers
-        ∙ sym (tests_are st l.0 h)) in
+    tests_are (fold renew_one st ls) l.0 after.limits
+    ∙ (ap (λ (ns : List ℕ). (is_none (cond (contains ns (named l.0)) (Some rank.Entry) None), refusals.UnknownLease) ∷ (false, refusals.NotActive) ∷ []) after.numbers
+    ∙ sym (tests_are st l.0 h)) in
     ap (λ w. record { lease = l.0; outcome = outcome_of (first_that (w ++ (is_none (granted l.1), refusals.BadLease) ∷ [])) (outcome.Renewed (ms_of l.1)) }) same
 
 -- ---- cancellations
@@ -74,7 +74,7 @@ cancellation st ls lease h =
     ap (λ b. cond (b && not (list_any (λ l. named l == named lease) ls)) outcome.Cancelled (outcome.Refused refusals.UnknownLease)) (any_number (named lease) st.rows)
     ∙ outcome_at (contains (row_numbers st.rows) (named lease)) (list_any (λ l. named l == named lease) ls)
     ∙ ap (λ w. outcome_of (first_that w) outcome.Cancelled)
-      (ap (λ b. (is_none (cond b (Some rank.Entry) None), refusals.UnknownLease) ∷ (false, refusals.NotActive) ∷ []) (sym (after.numbers (named lease))) ∙ sym (tests_are (fold cancel_one st ls) lease after.limits))
+    (ap (λ b. (is_none (cond b (Some rank.Entry) None), refusals.UnknownLease) ∷ (false, refusals.NotActive) ∷ []) (sym (after.numbers (named lease))) ∙ sym (tests_are (fold cancel_one st ls) lease after.limits))
 
 -- ---- limits
 

@@ -1,11 +1,12 @@
 //! What is due.
 ghost use Rattle.std.specs.Prelude.{◌≡◌, Some, if◌then◌else◌};
 ghost use Rattle.std.specs.Option.{option_map_or};
-ghost use Rattle.jsp_lease.specs.Due.{is_before as comes_before, rank_number as place_of_rank};
+ghost use Rattle.jsp_lease.specs.Due.{is_before as comes_before};
 ghost use Rattle.jsp_model.specs.Due.{due as first_due};
 ghost use Rattle.jsp_model.specs.Image.{IsWithinLimits};
 ghost use Rattle.jsp_audit.specs.Time.{row_item};
 
+use jsp_lease::is_before;
 use jsp_model::{Item, Rank, Row, State};
 
 /// The least due item: its end has come. Only rows have ends by now.
@@ -44,32 +45,5 @@ fn earlier(item: Item, other: Option<Item>) -> Item
     match other {
         None => item,
         Some(other) => { if is_before(other, item) { other } else { item } }
-    }
-}
-
-/// By end, then rank, then number.
-fn is_before(a: Item, b: Item) -> bool
-    ensures { result ≡ comes_before a b }
-{
-    if a.end != b.end {
-        return a.end < b.end;
-    }
-    let rank = rank_number(a.rank);
-    let other = rank_number(b.rank);
-    if rank != other {
-        return rank < other;
-    }
-    a.number < b.number
-}
-
-pub(crate) fn rank_number(rank: Rank) -> u8
-    ensures { result ≡ place_of_rank rank }
-{
-    match rank {
-        Rank::Entry => 0,
-        Rank::Registration => 1,
-        Rank::Transaction => 2,
-        Rank::Blocked => 3,
-        Rank::MatchSet => 4,
     }
 }

@@ -8,11 +8,12 @@ ghost use Rattle.jsp_model.specs.Refusals.{refusal as refusal_of, rows_tests, ro
 ghost use Rattle.jsp_model.specs.Steps.{is_legal as legal, has_its_rows as has_rows, is_choice as chooses, is_fault as is_a_fault, outbox_of};
 ghost use Rattle.jsp_model.specs.Image.{IsWithinLimits};
 
-use crate::ends::{due, rank_number};
+use crate::ends::due;
 use crate::lookup::is_open;
 use crate::offers::{first_offered, may_be_given};
 use crate::outboxes::place_of;
 use crate::refusals::refusal;
+use jsp_lease::rank_number;
 use jsp_model::{Form, Image, Item, State, Step};
 use jsp_reply::Refusal;
 use jsp_types::NoMemory;

@@ -164,6 +164,7 @@ fn refuse_write(state: &State, session: u64, id: u64, write: &Write) -> Option<R
     None
 }
 
+/// Whether nothing is granted for the time that a write asks for.
 fn asks_no_lease(write: &Write) -> bool
     ensures { result ≡ is_none (granted_of write.now.lease) }
 {

@@ -22,8 +22,9 @@ pub struct Item {
     pub number: u64,
 }
 
-/// By end, then rank, then number.
-pub(crate) fn is_before(a: Item, b: Item) -> bool
+/// Whether the first item comes before the second: by end, then rank, then number. The order is this
+/// profile's own.
+pub fn is_before(a: Item, b: Item) -> bool
     ensures { result ≡ comes_before a b }
 {
     if a.end != b.end {
@@ -37,7 +38,8 @@ pub(crate) fn is_before(a: Item, b: Item) -> bool
     a.number < b.number
 }
 
-fn rank_number(rank: Rank) -> u8
+/// The place of a rank among those of one end, from 0 on.
+pub fn rank_number(rank: Rank) -> u8
     ensures { result ≡ place_of_rank rank }
 {
     match rank {

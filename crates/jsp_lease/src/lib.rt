@@ -20,6 +20,6 @@ mod tournament;
 
 pub use fault::{GrantFault, LeaseFault};
 pub use granting::granted;
-pub use item::{Item, Rank};
+pub use item::{Item, Rank, is_before, rank_number};
 pub use leases::Leases;
 pub use std::alloc::AllocError as NoMemory;

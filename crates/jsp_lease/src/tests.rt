@@ -43,7 +43,10 @@ fn granted_from_now(rt: HostRuntime) -> Result<(), Fail> {
     assert_eq!(rt; leases.last(), 9);
     assert_eq!(rt; leases.find(4), Some(item(1500, Rank::Entry, 4)));
     assert_eq!(rt; leases.find(5), Some(item(61_000, Rank::Transaction, 5)));
-    assert_eq!(rt; leases.find(9), Some(item(3_601_000, Rank::Registration, 9)));
+    assert_eq!(rt;
+        leases.find(9),
+        Some(item(3_601_000, Rank::Registration, 9))
+    );
     assert_eq!(rt; leases.find(6), None);
     Ok(())
 }
@@ -52,7 +55,10 @@ fn granted_from_now(rt: HostRuntime) -> Result<(), Fail> {
 fn refused_and_unchanged(rt: HostRuntime) -> Result<(), Fail> {
     let mut leases = Leases::new(rt.alloc());
     leases.place(item(700, Rank::Entry, 1))?;
-    assert_eq!(rt; leases.grant(2, Rank::Entry, 100, -2), Err(GrantFault::BadLease));
+    assert_eq!(rt;
+        leases.grant(2, Rank::Entry, 100, -2),
+        Err(GrantFault::BadLease)
+    );
     assert_eq!(rt; leases.renew(1, 200, -2), Err(LeaseFault::BadLease));
     assert_eq!(rt; leases.renew(2, 200, 50), Err(LeaseFault::UnknownLease));
     assert_eq!(rt; leases.renew(2, 200, -2), Err(LeaseFault::UnknownLease));
