@@ -1,10 +1,10 @@
 -- Worked examples.
-use Rattle.std.specs.Prelude.{◌≡◌, refl, ℕ, ◌+◌, pos, negsuc, List, [], ◌∷◌, Some, None, Ok, Err}
+use Rattle.std.specs.Prelude.{◌≡◌, refl, ℕ, ◌+◌, pos, negsuc, [], ◌∷◌, Some, None, Err}
 use Rattle.jsp_lease.specs.declared.item.Item.{Item}
 use Rattle.jsp_lease.specs.declared.item.Rank.{Rank}
 use Rattle.jsp_lease.specs.declared.item.Rank.TheVariants as rank
 use Rattle.jsp_lease.specs.declared.fault.LeaseFault.TheVariants.{UnknownLease, BadLease}
-use Rattle.jsp_lease.specs.Due.{first_item, over_by, is_item}
+use Rattle.jsp_lease.specs.Due.{first_item, over_by}
 use Rattle.jsp_lease.specs.Granted.{granted, ms_of}
 use Rattle.jsp_lease.specs.Leases.{item_numbered, ending_at, without, renewal}
 

@@ -1,8 +1,7 @@
 -- A node that is played, and the nodes that stay won.
-use Rattle.std.proofs.Common.{◌≡◌, ◌≢◌, ℕ, ◌+◌, ◌*◌, ◌<◌, ◌≤◌, List, length, set, Option, refl, ap, sym, ◌∙◌, arith}
+use Rattle.std.proofs.Common.{◌≡◌, ◌≢◌, ℕ, ◌+◌, ◌<◌, List, length, set, Option, ap, sym, ◌∙◌, arith, inl, inr, None, subst}
 use Rattle.std.proofs.lemmas.List.{get_or-set_same, get_or-set_other}
 use Rattle.std.proofs.lemmas.Bool.{cases_eq}
-use Rattle.std.proofs.Common.{inl, inr, ◌⊎◌, None}
 use Rattle.jsp_lease.specs.declared.item.Item.{Item}
 use Rattle.jsp_lease.specs.Tournament.{earlier, node_at, IsWon}
 
@@ -26,4 +25,4 @@ played nodes k n v some lt is a b won =
       | inr ne ↦ won_still nodes k n v ne a b (won ne)
     ] where
       subst_won : (nodes : List (Option Item)) (k n : ℕ) (v : Option Item) → k ≡ n → IsWon (set nodes k v) k → IsWon (set nodes k v) n
-      subst_won nodes k n v e w = Rattle.std.proofs.Common.subst (λ (m : ℕ). IsWon (set nodes k v) m) e w
+      subst_won nodes k n v e w = subst (λ (m : ℕ). IsWon (set nodes k v) m) e w

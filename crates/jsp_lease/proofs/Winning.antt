@@ -1,11 +1,11 @@
 -- The winner of many places, and of the nodes above them.
-use Rattle.std.proofs.Common.{◌≡◌, ℕ, zero, suc, ◌+◌, ◌-◌, ◌<◌, ◌≤◌, Bool, true, false, cond, nat_le, List, [], ◌∷◌, ◌++◌, length, take, drop, get_or, Option, Some, None, refl, ap, sym, ◌∙◌, arith, add-one, append_assoc}
+use Rattle.std.proofs.Common.{◌≡◌, ℕ, zero, suc, ◌+◌, ◌-◌, ◌<◌, Bool, true, false, cond, List, [], ◌∷◌, ◌++◌, length, take, drop, get_or, Option, Some, None, refl, ap, sym, ◌∙◌, arith, add-one, append_assoc}
 use Rattle.std.specs.Option.{option_map_or}
 use Rattle.std.proofs.lemmas.List.{drop_more, take_more, take_all, get_or-drop, length-drop}
 use Rattle.jsp_lease.specs.declared.item.Item.{Item}
-use Rattle.jsp_lease.specs.Due.{is_before, first_item, over_by}
+use Rattle.jsp_lease.specs.Due.{is_before, first_item}
 use Rattle.jsp_lease.specs.Tournament.{living, earlier, node_at, IsWon, IsTournament}
-use Rattle.jsp_lease.proofs.Order.{asym, same, below, end_first}
+use Rattle.jsp_lease.proofs.Order.{asym, same, below}
 
 abbrev least : Item → Item → Item
 least a b = cond (is_before b a) b a

@@ -2,18 +2,21 @@
 use std::alloc::AllocError;
 use thiserror::Error;
 
-/// Why a lease isn't renewed or cancelled.
+/// Why a lease isn't renewed or cancelled (Jini Leasing; the names are this profile's own).
 #[derive(Clone, Copy, Debug, Drop, Error, PartialEq, Eq)]
 pub enum LeaseFault {
+    /// No item has the number: it was never given, or its item has gone.
     #[error("no lease has this number")]
     UnknownLease,
+    /// A negative time other than ANY (-1).
     #[error("nothing is granted for this time")]
     BadLease,
 }
 
-/// Why a lease isn't granted.
+/// Why a lease isn't granted (this profile's own).
 #[derive(Clone, Copy, Debug, Drop, Error, PartialEq, Eq)]
 pub enum GrantFault {
+    /// A negative time other than ANY (-1).
     #[error("nothing is granted for this time")]
     BadLease,
     #[error("out of memory")]

@@ -6,8 +6,8 @@ const MOST_MS: u64 = 3_600_000;
 
 const ANY_MS: u64 = 60_000;
 
-/// What a lease of the asked time is granted, in milliseconds: the least of that time and an hour, a
-/// minute for ANY (-1), and nothing for another negative time. A lease of 0 ends at once.
+/// What a lease of the asked time is granted, in milliseconds: the least of that time and an hour,
+/// a minute for ANY (-1), and nothing for another negative time. A lease of 0 ends at once.
 ///
 /// That less may be granted than was asked for, and ANY, are of Jini Distributed Leasing; the
 /// numbers are this profile's own.

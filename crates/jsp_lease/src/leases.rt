@@ -13,13 +13,12 @@ use std::marker::Model;
 /// The items of a house, found by number and by end.
 ///
 /// Contracts see the items in rising order of their numbers, the last number that was given, and
-/// the room: how many items can be added before memory is asked for. An item is renewed or cancelled
-/// whatever its rank is; whether its number may be used so is for the caller to know.
+/// the room: how many items can be added before memory is asked for. An item is renewed or
+/// cancelled whatever its rank is; whether its number may be used so is for the caller to know.
 ///
-/// Each number keeps its place in a row once its item has gone, so a place is found by a binary
-/// search. Where the row is full, the next item moves the living to a new row of at least twice
-/// their number. So a call takes time by the logarithm of the number of places: at most twice the
-/// items that there were when the row was made, or those and the room that was asked for.
+/// Each number keeps its place in a row once its item has gone, so that a place is found by a
+/// binary search. Where the row is full, the next item moves those that are left to a new row, of
+/// at least twice as many places and 8 more than there are items.
 #[derive(Drop)]
 pub struct Leases {
     numbers: Vec<u64>,
@@ -41,7 +40,8 @@ impl Model for Leases {
       room = length s.tournament - length s.numbers.items;
     } };
 
-    ghost invariant = { λ s. AreRoomy s.numbers.items s.tournament s.last (vec_capacity s.numbers) };
+    ghost invariant = { λ s. AreRoomy s.numbers.items s.tournament s.last
+        (vec_capacity s.numbers) };
 }
 
 /// The fewest new places that memory is asked for at a time.
@@ -66,7 +66,7 @@ impl Leases {
         }
     }
 
-    /// The last number that was given, or 0. It stays where its item goes.
+    /// The last number that was given, or 0 at first. It stays when its item goes.
     pub fn last(&self) -> u64
         ensures value { result ≡ self.now.last }
         ensures numbered { AreNumbered self.now }
@@ -75,8 +75,8 @@ impl Leases {
     }
 
     /// Grants a lease of the asked time in milliseconds, from the time of the house on, and answers
-    /// what it grants. The number is above all that were given, and the time at most 2^62 ms, so the
-    /// end is at most 2^62 + 3,600,000.
+    /// what it grants. The number is above all that were given, and the time at most 2^62 ms, so
+    /// the end is at most 2^62 + 3,600,000.
     ///
     /// `BadLease` where nothing is granted (this profile's own), and `NoMemory`, which doesn't come
     /// while there is room. Either leaves all as it was.
@@ -84,8 +84,8 @@ impl Leases {
         requires later { self.old.last < number }
         requires in_time { time ≤ 2 ^ 62 }
         ensures refused { (result ≡ Err GrantFault.BadLease) ↔ (granted_of ms ≡ None) }
-        ensures ok { IfOk result (λ given. (granted_of ms ≡ Some given)
-            × Adds self.old (record { end = time + given; rank = rank; number = number }) self.new) }
+        ensures ok { IfOk result (λ given. (granted_of ms ≡ Some given) × Adds self.old
+            (record { end = time + given; rank = rank; number = number }) self.new) }
         ensures err { OnErr result (self.new ≡ self.old) }
         ensures roomy { 0 < self.old.room → IsSome (granted_of ms) → IsOk result }
     {
@@ -132,7 +132,8 @@ impl Leases {
 
     /// The same items, with room for so many more.
     fn with_room(&self, count: usize) -> Result<Leases, NoMemory>
-        ensures { IfOk result (λ copy. (copy.items ≡ self.now.items) × (copy.last ≡ self.now.last) × (count ≤ copy.room)) }
+        ensures { IfOk result (λ copy. (copy.items ≡ self.now.items)
+            × (copy.last ≡ self.now.last) × (count ≤ copy.room)) }
     {
         let alloc = *self.numbers.allocator();
         let items = living_of(alloc, self.tournament.as_slice())?;
@@ -150,11 +151,11 @@ impl Leases {
     }
 
     /// Renews a lease: it ends after the asked time in milliseconds from the time of the house on,
-    /// as granted, whatever was left of it (Jini Leasing). Answers what it grants. The time is at most
-    /// 2^62 ms. It takes no memory.
+    /// as granted, whatever was left of it (Jini Leasing). Answers what it grants. The time is at
+    /// most 2^62 ms. It takes no memory.
     ///
-    /// `UnknownLease` comes before `BadLease`, where nothing is granted (this profile's own). Either
-    /// leaves all as it was.
+    /// `UnknownLease` comes before `BadLease`, where nothing is granted (this profile's own).
+    /// Either leaves all as it was.
     pub fn renew(&mut self, number: u64, time: u64, ms: i64) -> Result<u64, LeaseFault>
         requires { time ≤ 2 ^ 62 }
         ensures answer { result ≡ renewal (item_numbered number self.old.items) (granted_of ms) }
@@ -177,7 +178,8 @@ impl Leases {
     /// Cancels a lease: its item goes before its end (Jini Leasing), and is answered.
     /// `UnknownLease` where there is none. It takes no memory.
     pub fn cancel(&mut self, number: u64) -> Result<Item, LeaseFault>
-        ensures answer { result ≡ ok_or (item_numbered number self.old.items) LeaseFault.UnknownLease }
+        ensures answer { result
+            ≡ ok_or (item_numbered number self.old.items) LeaseFault.UnknownLease }
         ensures ok { OnOk result (self.new ≡ with_items self.old (without number self.old.items)) }
         ensures err { OnErr result (self.new ≡ self.old) }
     {
@@ -199,8 +201,8 @@ impl Leases {
     }
 
     /// The item that is due at this time: the first, by end, then rank, then number, of those whose
-    /// end isn't later. A lease is over as soon as its end has come (Jini Leasing); which comes first
-    /// is this profile's own. It takes no memory.
+    /// end isn't later. A lease is over as soon as its end has come (Jini Leasing); which comes
+    /// first is this profile's own. It takes no memory.
     pub fn due(&self, time: u64) -> Option<Item>
         ensures { result ≡ first_item (over_by time self.now.items) }
     {
@@ -230,7 +232,8 @@ fn living_of(alloc: Global, places: &[Option<Item>]) -> Result<Vec<Item>, NoMemo
 
 /// The numbers of the items, in a vector with memory for so many places.
 fn numbers_of(alloc: Global, items: &[Item], places: usize) -> Result<Vec<u64>, NoMemory>
-    ensures numbers { IfOk result (λ numbers. numbers.items ≡ map (λ (i : Item). i.number) items.now) }
+    ensures numbers { IfOk result (λ numbers.
+        numbers.items ≡ map (λ (i : Item). i.number) items.now) }
     ensures room { IfOk result (λ numbers. places ≤ vec_capacity numbers) }
 {
     let mut numbers = Vec::with_capacity(alloc, places)?;
@@ -244,7 +247,8 @@ fn numbers_of(alloc: Global, items: &[Item], places: usize) -> Result<Vec<u64>, 
 fn tournament_of(alloc: Global, items: &[Item], places: usize) -> Result<Tournament, NoMemory>
     requires fits { length items.now ≤ places }
     requires limited { places < 2 ^ 62 }
-    ensures { IfOk result (λ tournament. tournament ≡ map Some items.now ++ replicate (places - length items.now) None) }
+    ensures { IfOk result (λ tournament.
+        tournament ≡ map Some items.now ++ replicate (places - length items.now) None) }
 {
     let mut row = Vec::with_capacity(alloc, places)?;
     for item in items {

@@ -1,13 +1,14 @@
 //! The ends of leased things, with the least due one found at once.
 //!
 //! Whatever ends by itself is an [`Item`]: its end, its kind and its number. [`Leases`] holds the
-//! items of a house. It grants, renews and cancels them by the rules of Jini Distributed Leasing, in
-//! this profile's own numbers (`granted`), and tells which is due: its end has come, and it is the
-//! first by end, then kind, then number. Contracts see the list of the items in rising order of
+//! items of a house. It grants, renews and cancels them by the rules of Jini Distributed Leasing,
+//! in this profile's own numbers (`granted`), and tells which is due: its end has come, and it is
+//! the first by end, then kind, then number. Contracts see the list of the items in rising order of
 //! their numbers and the last number (`specs/Leases`): a grant appends, a renewal changes one end,
 //! a cancel leaves one out, and what is due is the first item of those that are over (`specs/Due`).
 //! A refused call leaves all as it was. Only what adds takes memory, and room can be made before.
-//! Each call takes time by the logarithm of the number of items, and `due` none of it.
+//! Finding what is due takes one look, and every other call a number of looks that grows as the
+//! logarithm of the number of items, once the moves to more memory are spread over all calls.
 #![tactic(auto)]
 
 mod fault;

@@ -1,4 +1,4 @@
-use Rattle.std.proofs.Common.{◌≡◌, Option, Some, None, Ok, Err, ◌∙◌, sym, arith}
+use Rattle.std.proofs.Common.{Ok, Err, ◌∙◌, sym, arith}
 use Rattle.jsp_lease.proofs.Standing.{only_place, nowhere, gone, search_found}
 use Rattle.jsp_lease.proofs.leases.find_place.Goals as goal
 

@@ -1,6 +1,5 @@
-use Rattle.std.proofs.Common.{◌≡◌, ◌+◌, ◌*◌, ◌-◌, ◌∙◌, ap, arith, length}
+use Rattle.std.proofs.Common.{◌≡◌, ◌+◌, ◌*◌, ◌-◌, ◌∙◌, arith}
 use Rattle.std.proofs.lemmas.List.{drop-set-lt, length-set}
-use Rattle.std.proofs.lemmas.Grind.{common_steps}
 use Rattle.jsp_lease.specs.Tournament.{node_at, earlier}
 use Rattle.jsp_lease.proofs.Playing.{played}
 use Rattle.jsp_lease.proofs.tournament.play_all.Goals as goal

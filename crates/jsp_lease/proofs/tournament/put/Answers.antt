@@ -1,4 +1,4 @@
-use Rattle.std.proofs.Common.{◌≡◌, ◌+◌, ◌*◌, ◌-◌, ◌/◌, ◌<◌, ◌∙◌, ap, arith, length}
+use Rattle.std.proofs.Common.{◌≡◌, ◌+◌, ◌*◌, ◌/◌, ◌<◌, ◌∙◌, arith}
 use Rattle.std.proofs.lemmas.List.{drop-set-lt, drop-set-add, length-set}
 use Rattle.jsp_lease.specs.Tournament.{node_at, earlier}
 use Rattle.jsp_lease.proofs.Playing.{played, won_still}

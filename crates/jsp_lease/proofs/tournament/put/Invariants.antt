@@ -1,4 +1,4 @@
-use Rattle.std.proofs.Common.{◌≡◌, ◌≢◌, ℕ, ◌+◌, ◌<◌, ◌≤◌, length, drop, set}
+use Rattle.std.proofs.Common.{◌≡◌, ◌≢◌, ℕ, ◌+◌, ◌<◌, length, drop, set}
 use Rattle.jsp_lease.specs.Tournament.{IsWon}
 use Rattle.jsp_lease.proofs.tournament.put.Given as goal
 

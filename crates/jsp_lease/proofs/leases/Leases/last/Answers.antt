@@ -1,6 +1,6 @@
 use Rattle.std.proofs.Common.{◌-◌, length, subst}
 use Rattle.jsp_lease.specs.Leases.{AreNumbered}
-use Rattle.jsp_lease.proofs.Adding.{are_numbered, row_kept}
+use Rattle.jsp_lease.proofs.Adding.{are_numbered}
 use Rattle.jsp_lease.proofs.leases.Leases.last.Goals as goal
 
 pub returns-clause-numbered : goal.returns-clause-numbered

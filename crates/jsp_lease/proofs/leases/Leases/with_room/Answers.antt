@@ -1,4 +1,4 @@
-use Rattle.std.proofs.Common.{◌≡◌, ◌≤◌, ◌+◌, ◌-◌, ◌∙◌, ap, sym, arith, length}
+use Rattle.std.proofs.Common.{◌≡◌, ◌+◌, ◌-◌, ◌∙◌, ap, arith, length}
 use Rattle.jsp_lease.specs.Tournament.{living}
 use Rattle.jsp_lease.proofs.Adding.{numbers_of, row_of, row_kept, row_living, row_room}
 use Rattle.jsp_lease.proofs.leases.Leases.with_room.Goals as goal
