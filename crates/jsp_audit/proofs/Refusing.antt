@@ -51,9 +51,6 @@ no_search_txn q h = none_of q.txn (and_parts (is_zero q.timeout) (is_none q.txn)
 
 -- ---- writes
 
-record WriteFacts (st : State) (s id : ℕ) (w : Write) : Type 0 where
-  built : is_built (ask.Write w) ≡ true
-
 pub write_waiting : (st : State) (s id : ℕ) (w : Write) → is_waiting st s id ≡ true → Some refusals.IdInUse ≡ refusal st s id (ask.Write w)
 unfolding refusal
 write_waiting st s id w waits = rw waits refl

@@ -63,15 +63,6 @@ with_end_at st now n number end then' is same at = is ∙ ap2 same at
     ap2 : n ≡ number → end ≡ then' → with_end st n end ≡ with_end st number then'
     ap2 same at = rw (same, at) refl
 
--- one of a batch, as its refusal has it
-pub one_accepted : (st now then' : State) (o : Option Refusal) → is_none o ≡ true → now ≡ then' → now ≡ cond (is_some o) st then'
-one_accepted st now then' None h is = is
-one_accepted st now then' (Some r) h is = cc (h)
-
-pub one_refused : (st then' : State) (o : Option Refusal) → is_none o ≡ false → st ≡ cond (is_some o) st then'
-one_refused st then' None h = cc (h)
-one_refused st then' (Some r) h = refl
-
 -- ---- limits
 
 numbers_extended : (n end : ℕ) (rows : List Row) → row_numbers (map (extended n end) rows) ≡ row_numbers rows

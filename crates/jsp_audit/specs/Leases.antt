@@ -1,13 +1,14 @@
--- Renewing rows.
-use Rattle.std.specs.Prelude.{ℕ, List, if◌then◌else◌, ◌==◌}
+-- Renewing the leases of rows.
+use Rattle.std.specs.Prelude.{ℕ, if◌then◌else◌, ◌==◌}
+use Rattle.jsp_lease.specs.declared.item.Rank.TheVariants as rank
 use Rattle.jsp_model.specs.declared.state.State.{State}
 use Rattle.jsp_model.specs.declared.state.Row.{Row}
-use Rattle.jsp_model.specs.Lookup.{update}
+use Rattle.jsp_model.specs.Changes.{extend}
 
--- the row's end is this, if it has the number
+-- the row, with this end if it has the number
 abbrev pub extended : ℕ → ℕ → Row → Row
 extended number end row = if row.number == number then record row { end = end } else row
 
 -- the row of this number has this end
 abbrev pub with_end : State → ℕ → ℕ → State
-with_end st number end = record st { rows = update (λ r. r.number == number) (λ (r : Row). record r { end = end }) st.rows }
+with_end st number end = extend st end rank.Entry number

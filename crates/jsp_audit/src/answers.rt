@@ -15,7 +15,8 @@ ghost use Rattle.jsp_model.specs.Answers.{said as said_in, answer as answer_of, 
 ghost use Rattle.jsp_model.specs.Image.{IsWithinLimits};
 
 use crate::batches::{cancel_answers, renew_answers};
-use crate::lookup::{contains, ms_of, named};
+use crate::lookup::{contains, named};
+use jsp_lease::ms_of;
 use jsp_model::{Row, Space, State};
 use jsp_reply::{Refusal, Reply, Said};
 use jsp_types::{Entry, Items, NoMemory, Text};

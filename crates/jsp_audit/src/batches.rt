@@ -10,7 +10,8 @@ ghost use Rattle.jsp_model.specs.Answers.{renew_answer, cancel_answer};
 ghost use Rattle.jsp_model.specs.Image.{IsWithinLimits};
 
 use crate::leases::renew_refusal;
-use crate::lookup::{is_row, ms_of, named};
+use crate::lookup::{is_row, named};
+use jsp_lease::ms_of;
 use jsp_model::State;
 use jsp_reply::{LeaseAnswer, LeaseOutcome, Refusal};
 use jsp_types::{Items, NoMemory};

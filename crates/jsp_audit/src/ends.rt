@@ -9,7 +9,8 @@ ghost use Rattle.jsp_audit.specs.Time.{row_item};
 use jsp_lease::is_before;
 use jsp_model::{Item, Rank, Row, State};
 
-/// The least due item: its end has come. Only rows have ends by now.
+/// The least due item, by end, rank and number: its end has come. The order is this profile's own.
+/// Only rows have ends by now.
 pub fn due(state: &State) -> Option<Item>
     requires { IsWithinLimits state.now }
     ensures { result ≡ first_due state.now }

@@ -8,9 +8,9 @@ ghost use Rattle.jsp_model.specs.Changes.{renew as renewed, cancel as cancelled,
 ghost use Rattle.jsp_model.specs.Image.{IsWithinLimits};
 ghost use Rattle.jsp_audit.specs.Leases.{extended, with_end};
 
-use crate::lookup::{is_voting, ms_of, named, rank_of};
+use crate::lookup::{is_voting, named, rank_of};
 use crate::rows::end_row;
-use jsp_lease::granted;
+use jsp_lease::{granted, ms_of};
 use jsp_model::{Row, State};
 use jsp_reply::Refusal;
 

@@ -3,7 +3,6 @@ ghost use Rattle.std.specs.Prelude.{◌≡◌, ◌==◌, ◌&&◌, ◌^◌, IfOk
 ghost use Rattle.jsp_types.specs.Classes.{first_that};
 ghost use Rattle.jsp_wire.specs.Limits.{is_plain};
 ghost use Rattle.jsp_model.specs.declared.step.Step.TheVariants as step;
-ghost use Rattle.jsp_lease.specs.Due.{rank_number as place_of_rank, is_item as is_same_item};
 ghost use Rattle.jsp_model.specs.Refusals.{refusal as refusal_of, rows_tests, rows_asked, as_blocked, one_row};
 ghost use Rattle.jsp_model.specs.Steps.{is_legal as legal, has_its_rows as has_rows, is_choice as chooses, is_fault as is_a_fault, outbox_of};
 ghost use Rattle.jsp_model.specs.Image.{IsWithinLimits};
@@ -13,7 +12,7 @@ use crate::lookup::is_open;
 use crate::offers::{first_offered, may_be_given};
 use crate::outboxes::place_of;
 use crate::refusals::refusal;
-use jsp_lease::rank_number;
+use jsp_lease::is_item;
 use jsp_model::{Form, Image, Item, State, Step};
 use jsp_reply::Refusal;
 use jsp_types::NoMemory;
@@ -95,12 +94,6 @@ fn may_be_due(state: &State, item: Item) -> bool
         None => false,
         Some(first) => is_item(item, first),
     }
-}
-
-fn is_item(a: Item, b: Item) -> bool
-    ensures { result ≡ is_same_item a b }
-{
-    a.end == b.end && rank_number(a.rank) == rank_number(b.rank) && a.number == b.number
 }
 
 #[tactic(auto, unfolding(jsp_model::specs::Steps::is_legal))]

@@ -1,11 +1,9 @@
 //! Finding things in a state.
-ghost use Rattle.std.specs.Prelude.{◌≡◌, ◌≤◌, ◌==◌, ◌&&◌, length, filter};
+ghost use Rattle.std.specs.Prelude.{◌≡◌, ◌==◌, ◌&&◌, length, filter};
 ghost use Rattle.std.specs.List.{list_any};
 ghost use Rattle.jsp_model.specs.Lookup.{is_open as has_open, space_named as place_named, is_waiting as waits, is_living as lives, is_voting as votes, named as number_named, rank_of as rank_of_number, contains as has};
-ghost use Rattle.jsp_lease.specs.Granted.{granted as granted_of, ms_of as granted_ms};
 ghost use Rattle.jsp_model.specs.Refusals.{rows_in as count_in};
 
-use jsp_lease::granted;
 use jsp_model::{Blocked, Commit, Rank, State, Transaction};
 
 /// Whether the session is open.
@@ -139,12 +137,4 @@ fn is_set(state: &State, number: u64) -> bool
     ensures { result ≡ list_any (λ m. m.number == number) state.now.sets }
 {
     state.sets.as_slice().iter().any(|m| m.number == number)
-}
-
-/// What a lease of the asked time is granted, in milliseconds, where it is granted at all.
-pub(crate) fn ms_of(lease: i64) -> u64
-    ensures ms { result ≡ granted_ms lease }
-    ensures limit { result ≤ 3600000 }
-{
-    granted(lease).unwrap_or(0)
 }

@@ -14,7 +14,9 @@ use jsp_types::{Classes, NoMemory, Template, check_template, matches};
 use jsp_wire::Search;
 use std::alloc::Global;
 
-/// The first row that a read or take may be given, if there is one: the one with the least number.
+/// The first row that a read or take without a transaction may be given, if there is one: the one with
+/// the least number. Any would do (JavaSpaces); the least is this profile's own. `NoMemory` where the
+/// template can't be made.
 pub fn first_offered(
     alloc: Global,
     state: &State,

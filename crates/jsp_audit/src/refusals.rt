@@ -40,10 +40,10 @@ pub fn refusal(
         Ask::Take(search) => Ok(refuse_search(state, session, id, search)),
         Ask::Renew { lease, ms } => Ok(refuse_renew(state, session, id, *lease, *ms)),
         Ask::Cancel { lease } => Ok(refuse_cancel(state, session, id, *lease)),
-        Ask::RenewAll { .. } => Ok(refuse_waiting(state, session, id)),
-        Ask::CancelAll { .. } => Ok(refuse_waiting(state, session, id)),
-        Ask::Spaces => Ok(refuse_waiting(state, session, id)),
-        Ask::Bye => Ok(refuse_waiting(state, session, id)),
+        Ask::RenewAll { .. } => Ok(refuse_by_id(state, session, id)),
+        Ask::CancelAll { .. } => Ok(refuse_by_id(state, session, id)),
+        Ask::Spaces => Ok(refuse_by_id(state, session, id)),
+        Ask::Bye => Ok(refuse_by_id(state, session, id)),
         _ => unreachable!(),
     }
 }
@@ -152,7 +152,7 @@ fn refuse_write(state: &State, session: u64, id: u64, write: &Write) -> Option<R
     if let Some(fault) = entry_fault(&state.classes, &write.entry) {
         return Some(entry_refusal(fault));
     }
-    if asks_no_lease(write) {
+    if asks_bad_lease(write) {
         return Some(Refusal::BadLease);
     }
     if rows_in(state, space as u64) >= MOST_ROWS {
@@ -165,7 +165,7 @@ fn refuse_write(state: &State, session: u64, id: u64, write: &Write) -> Option<R
 }
 
 /// Whether nothing is granted for the time that a write asks for.
-fn asks_no_lease(write: &Write) -> bool
+fn asks_bad_lease(write: &Write) -> bool
     ensures { result ≡ is_none (granted_of write.now.lease) }
 {
     granted(write.lease).is_none()
@@ -188,8 +188,8 @@ fn refuse_search(state: &State, session: u64, id: u64, search: &Search) -> Optio
     }
 }
 
-/// Why an operation is refused that nothing but its id speaks against.
-fn refuse_waiting(state: &State, session: u64, id: u64) -> Option<Refusal>
+/// The refusal of a request that only its id can cause.
+fn refuse_by_id(state: &State, session: u64, id: u64) -> Option<Refusal>
     ensures { result ≡ if waits state.now session id then Some IdInUse else None }
 {
     if is_waiting(state, session, id) {

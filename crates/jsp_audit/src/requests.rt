@@ -14,11 +14,12 @@ ghost use Rattle.jsp_model.specs.Image.{IsWithinLimits};
 
 use crate::answers::reply;
 use crate::leases::{cancel, cancel_all, renew, renew_all};
-use crate::lookup::{ms_of, space_named};
+use crate::lookup::space_named;
 use crate::outboxes::{Posted, post, take_back};
 use crate::refusals::{class_asked, refusal};
 use crate::rows::remove_rows;
 use crate::sessions::close;
+use jsp_lease::ms_of;
 use jsp_model::{Row, State};
 use jsp_types::{Entry, Items, NoMemory, check_entry};
 use jsp_wire::{Ask, Asked, Declare, Search, Write};

@@ -22,7 +22,7 @@ pub(crate) fn open(state: &mut State, session: u64) -> Result<(), NoMemory>
     Ok(())
 }
 
-/// Closes a session. What it waits for goes with it: nothing does yet.
+/// Closes a session. Its waiting requests go with it; by now there are none.
 pub(crate) fn close(state: &mut State, session: u64)
     requires { IsWithinLimits state.old }
     ensures { state.new ≡ closed state.old session }

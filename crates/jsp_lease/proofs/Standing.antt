@@ -129,20 +129,6 @@ pub gone : (numbers : List ℕ) (places : List (Option Item)) (number place : �
     → item_numbered number (living places) ≡ None
 gone numbers places number place kept lt is empty = found (is_numbered number) places place (only_place numbers places number place kept lt is) ∙ empty
 
--- emptying a place, or changing what stands there
-pub set_kept : (numbers : List ℕ) (places : List (Option Item)) (k : ℕ) (v : Option Item) → AreKept numbers places → k < length places
-    → ((item : Item) → v ≡ Some item → (k < length numbers) × (slice_index numbers k ≡ item.number)) → AreKept numbers (set places k v)
-set_kept numbers places k v kept lt own = record {
-  fits = omega (arith, kept.fits, length-set places k v);
-  rising = kept.rising;
-  at_its_number = λ j item there. elim (cases_eq j k) [
-    | inl same ↦ moved numbers j k item same (own item (sym (get_or-set_same places k v None lt) ∙ (ap (λ i. node_at (set places k v) i) (sym same) ∙ there)))
-    | inr apart ↦ kept.at_its_number j item (sym (get_or-set_other places k j v None apart) ∙ there)
-  ];
-} where
-  moved : (numbers : List ℕ) (j k : ℕ) (item : Item) → j ≡ k → (k < length numbers) × (slice_index numbers k ≡ item.number) → (j < length numbers) × (slice_index numbers j ≡ item.number)
-  moved numbers j k item same h = (omega (arith, h.0), ap (λ i. slice_index numbers i) same ∙ h.1)
-
 pub number_there : (numbers : List ℕ) (places : List (Option Item)) (number place : ℕ) (item : Item) → AreKept numbers places → StandsAt number places place item
     → item_numbered number (living places) ≡ Some item
 number_there numbers places number place item kept h = found (is_numbered number) places place h.only ∙ h.there

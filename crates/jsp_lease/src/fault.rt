@@ -19,6 +19,7 @@ pub enum GrantFault {
     /// A negative time other than ANY (-1).
     #[error("nothing is granted for this time")]
     BadLease,
+    /// Memory for the item was refused.
     #[error("out of memory")]
     NoMemory,
 }

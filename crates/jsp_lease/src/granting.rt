@@ -1,6 +1,6 @@
 //! What a lease is granted.
-ghost use Rattle.std.specs.Prelude.{◌≡◌};
-ghost use Rattle.jsp_lease.specs.Granted.{granted as granted_of};
+ghost use Rattle.std.specs.Prelude.{◌≡◌, ◌≤◌};
+ghost use Rattle.jsp_lease.specs.Granted.{granted as granted_of, ms_of as granted_ms};
 
 const MOST_MS: u64 = 3_600_000;
 
@@ -21,4 +21,12 @@ pub fn granted(asked: i64) -> Option<u64>
         return Some(ANY_MS);
     }
     None
+}
+
+/// What a lease of the asked time is granted, in milliseconds, or 0 where nothing is.
+pub fn ms_of(asked: i64) -> u64
+    ensures ms { result ≡ granted_ms asked }
+    ensures limit { result ≤ 3600000 }
+{
+    granted(asked).unwrap_or(0)
 }

@@ -16,9 +16,9 @@ use std::marker::Model;
 /// the room: how many items can be added before memory is asked for. An item is renewed or
 /// cancelled whatever its rank is; whether its number may be used so is for the caller to know.
 ///
-/// Each number keeps its place in a row once its item has gone, so that a place is found by a
-/// binary search. Where the row is full, the next item moves those that are left to a new row, of
-/// at least twice as many places and 8 more than there are items.
+/// Each number keeps its place in a table once its item has gone, so that a place is found by a
+/// binary search. Where the table is full, the next item moves those that are left to a new one, with
+/// at least twice as many places as there are items, and at least 8 more.
 #[derive(Drop)]
 pub struct Leases {
     numbers: Vec<u64>,
@@ -117,7 +117,8 @@ impl Leases {
     }
 
     /// Makes room for so many items, so that the calls that add them can't fail. Where the room is
-    /// there it takes no memory. `NoMemory` leaves all as it was.
+    /// there it takes no memory. `NoMemory`, which comes in any case where room for 2^48 items or more is wanted,
+    /// leaves all as it was.
     pub fn reserve(&mut self, count: usize) -> Result<(), NoMemory>
         ensures ok { IfOk result (λ _. HasRoomFor self.old count self.new) }
         ensures err { OnErr result (self.new ≡ self.old) }

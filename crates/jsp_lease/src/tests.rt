@@ -134,7 +134,7 @@ fn one_end(rt: HostRuntime) -> Result<(), Fail> {
 }
 
 #[test]
-fn room_is_kept(rt: HostRuntime) -> Result<(), Fail> {
+fn reserving_keeps_the_items(rt: HostRuntime) -> Result<(), Fail> {
     let mut leases = Leases::new(rt.alloc());
     leases.place(item(7, Rank::Blocked, 3))?;
     leases.reserve(1000)?;

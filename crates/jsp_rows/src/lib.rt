@@ -2,7 +2,7 @@
 //!
 //! `RowsHouse` keeps the state of the abstract spaces as an `Image`. It chooses steps and makes them
 //! through jsp_audit, so each of its calls is a legal run: that is the contract `House` of jsp_model,
-//! which it meets. Of several rows that a take may be given it gives the one with the least number.
+//! which it meets. Of several rows that a read or take may be given it gives the one with the least number.
 //! An act makes what an earlier call left, then its own step, then what is due.
 #![tactic(auto)]
 

@@ -7,7 +7,7 @@ use Rattle.jsp_types.specs.declared.value.Kind.TheVariants as kind
 use Rattle.jsp_types.specs.declared.value.Value.TheVariants as value
 use Rattle.jsp_wire.specs.declared.ask.Ask.TheVariants as ask
 use Rattle.jsp_wire.specs.Parts.{raw_of}
-use Rattle.jsp_wire.specs.Operations.{declare_of, write_of, search_of, renew_of, cancel_of, renew_all_of, cancel_all_of, plain_of, ask_of}
+use Rattle.jsp_wire.specs.Operations.{declare_of, write_of, search_of, renew_of, cancel_of, renew_all_of, cancel_all_of, keyless_of, ask_of}
 use Rattle.jsp_wire.specs.Reading.{request, bad_json, bad_request, request_of, reading}
 
 unknown_key : reading (codes "{\"id\":5,\"op\":\"declare\",\"class\":\"J\",\"fields\":{},\"x\":1}") ≡ bad_request (Some 5)
@@ -33,11 +33,11 @@ unfolding serde_json_on_literals is_utf8 chars encode_utf8 reading request_of as
 a_write = refl
 
 the_spaces : reading (codes "{\"id\":3,\"op\":\"spaces\"}") ≡ request (record { id = 3; ask = ask.Spaces })
-unfolding serde_json_on_literals is_utf8 chars encode_utf8 reading request_of ask_of plain_of
+unfolding serde_json_on_literals is_utf8 chars encode_utf8 reading request_of ask_of keyless_of
 the_spaces = refl
 
 a_goodbye_of_more : reading (codes "{\"id\":3,\"op\":\"bye\",\"x\":1}") ≡ bad_request (Some 3)
-unfolding serde_json_on_literals is_utf8 chars encode_utf8 reading request_of ask_of plain_of
+unfolding serde_json_on_literals is_utf8 chars encode_utf8 reading request_of ask_of keyless_of
 a_goodbye_of_more = refl
 
 a_take : reading (codes "{\"id\":3,\"op\":\"take\",\"space\":\"a\",\"template\":{\"class\":\"J\",\"fields\":{\"k\":1}},\"timeout\":0,\"txn\":null}")
@@ -58,9 +58,9 @@ a_renewal : reading (codes "{\"id\":4,\"op\":\"renew\",\"lease\":7,\"ms\":9}") �
 unfolding serde_json_on_literals is_utf8 chars encode_utf8 reading request_of ask_of renew_of
 a_renewal = refl
 
-a_cancelling_without_a_number : reading (codes "{\"id\":4,\"op\":\"cancel\",\"lease\":null}") ≡ bad_request (Some 4)
+a_cancel_without_a_number : reading (codes "{\"id\":4,\"op\":\"cancel\",\"lease\":null}") ≡ bad_request (Some 4)
 unfolding serde_json_on_literals is_utf8 chars encode_utf8 reading request_of ask_of cancel_of
-a_cancelling_without_a_number = refl
+a_cancel_without_a_number = refl
 
 renewals : reading (codes "{\"id\":4,\"op\":\"renew_all\",\"leases\":[[7,9],[6,-1]]}")
     ≡ request (record { id = 4; ask = ask.RenewAll ((pos 7, pos 9) ∷ (pos 6, negsuc 0) ∷ []) })
@@ -71,9 +71,9 @@ a_pair_of_three : reading (codes "{\"id\":4,\"op\":\"renew_all\",\"leases\":[[7,
 unfolding serde_json_on_literals is_utf8 chars encode_utf8 reading request_of ask_of renew_all_of
 a_pair_of_three = refl
 
-cancellings : reading (codes "{\"id\":4,\"op\":\"cancel_all\",\"leases\":[7,6]}") ≡ request (record { id = 4; ask = ask.CancelAll (pos 7 ∷ pos 6 ∷ []) })
+cancels : reading (codes "{\"id\":4,\"op\":\"cancel_all\",\"leases\":[7,6]}") ≡ request (record { id = 4; ask = ask.CancelAll (pos 7 ∷ pos 6 ∷ []) })
 unfolding serde_json_on_literals is_utf8 chars encode_utf8 reading request_of ask_of cancel_all_of
-cancellings = refl
+cancels = refl
 
 an_empty_list : reading (codes "{\"id\":4,\"op\":\"cancel_all\",\"leases\":[]}") ≡ bad_request (Some 4)
 unfolding serde_json_on_literals is_utf8 chars encode_utf8 reading request_of ask_of cancel_all_of

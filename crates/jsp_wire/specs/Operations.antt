@@ -61,8 +61,8 @@ cancel_all_of d = do
   Some (ask.CancelAll leases)
 
 -- an operation without keys of its own
-unfoldable pub plain_of : Ask → Data → Option Ask
-plain_of a d = do
+unfoldable pub keyless_of : Ask → Data → Option Ask
+keyless_of a d = do
   _ ← only (codes "id" ∷ codes "op" ∷ []) d
   Some a
 
@@ -77,6 +77,6 @@ ask_of name d =
     else (if bytes_eq name (codes "cancel") then cancel_of d
     else (if bytes_eq name (codes "renew_all") then renew_all_of d
     else (if bytes_eq name (codes "cancel_all") then cancel_all_of d
-    else (if bytes_eq name (codes "spaces") then plain_of ask.Spaces d
-    else (if bytes_eq name (codes "bye") then plain_of ask.Bye d
+    else (if bytes_eq name (codes "spaces") then keyless_of ask.Spaces d
+    else (if bytes_eq name (codes "bye") then keyless_of ask.Bye d
     else None)))))))))

@@ -16,7 +16,8 @@ pub struct Declare {
     pub fields: Items<(Text, Option<Kind>)>,
 }
 
-/// An entry to be written.
+/// An entry to be written (JavaSpaces). The lease is asked for in milliseconds; -1 leaves the time to
+/// the server (Jini Leasing).
 #[derive(Drop)]
 pub struct Write {
     pub space: Text,
@@ -34,7 +35,8 @@ pub struct WriteAll {
     pub txn: Option<i64>,
 }
 
-/// An entry to be read or taken.
+/// An entry to be read or taken (JavaSpaces). The timeout is in milliseconds. In an `Asked` it is 0 by
+/// now, and there is no transaction.
 #[derive(Drop)]
 pub struct Search {
     pub space: Text,
@@ -98,7 +100,9 @@ pub enum Ask {
     Abort { txn: i64 },
     State { txn: i64 },
     Reset { space: Text },
+    /// The names of the spaces (this profile's own).
     Spaces,
+    /// The session is answered and closed (this profile's own).
     Bye,
     Hello { version: Version },
     WriteAll(WriteAll),
@@ -107,6 +111,7 @@ pub enum Ask {
     Next { set: i64, most: u64 },
     CloseSet { set: i64 },
 }
+
 /// A request: its id, and what it asks.
 #[derive(Drop)]
 pub struct Request {

@@ -2,7 +2,7 @@
 ghost use Rattle.std.specs.Prelude.{Some};
 ghost use Rattle.serde_json.specs.View.{view};
 ghost use Rattle.jsp_wire.specs.Parts.{Gives};
-ghost use Rattle.jsp_wire.specs.Operations.{declare_of, write_of, search_of, renew_of, cancel_of, renew_all_of, cancel_all_of, plain_of, ask_of};
+ghost use Rattle.jsp_wire.specs.Operations.{declare_of, write_of, search_of, renew_of, cancel_of, renew_all_of, cancel_all_of, keyless_of, ask_of};
 ghost use Rattle.jsp_wire.specs.Reading.{Answers, Parses, json_of, request_of, reading_of, reading};
 
 use crate::fault::{Flaw, WireFault};
@@ -102,9 +102,9 @@ fn cancel_all(alloc: Global, json: &Json) -> Result<Ask, Flaw>
 }
 
 /// An operation without keys of its own.
-#[tactic(auto, unfolding(crate::specs::Operations::plain_of))]
-fn plain(json: &Json, ask: Ask) -> Result<Ask, Flaw>
-    ensures { Gives result (plain_of ask (view json.now)) }
+#[tactic(auto, unfolding(crate::specs::Operations::keyless_of))]
+fn keyless(json: &Json, ask: Ask) -> Result<Ask, Flaw>
+    ensures { Gives result (keyless_of ask (view json.now)) }
 {
     only(json, &["id", "op"])?;
     Ok(ask)
@@ -123,8 +123,8 @@ fn ask(alloc: Global, name: &str, json: &Json) -> Result<Ask, Flaw>
         "cancel" => cancel(json),
         "renew_all" => renew_all(alloc, json),
         "cancel_all" => cancel_all(alloc, json),
-        "spaces" => plain(json, Ask::Spaces),
-        "bye" => plain(json, Ask::Bye),
+        "spaces" => keyless(json, Ask::Spaces),
+        "bye" => keyless(json, Ask::Bye),
         _ => Err(Flaw::Refused),
     }
 }

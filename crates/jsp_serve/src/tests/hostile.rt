@@ -107,7 +107,7 @@ const REQUESTS: [&str; 5] = [
     r#"{"id":5,"op":"spaces"}"#,
 ];
 
-// The next number of a linear generator modulo 2^64, with Knuth's factor.
+// The next number of a linear congruential generator modulo 2^64.
 fn next_number(number: u64) -> u64 {
     number
         .wrapping_mul(6_364_136_223_846_793_005)
