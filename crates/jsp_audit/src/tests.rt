@@ -1,3 +1,6 @@
+ghost use Rattle.std.specs.Prelude.{IsTrue};
+ghost use Rattle.jsp_wire.specs.Limits.{is_plain};
+
 use crate::{
     Replayed, apply, due, empty_image, first_offered, hand_out, is_legal, is_open, refusal, replay,
     replay_from, said, shut, waiting,
@@ -131,7 +134,9 @@ fn first_for(
     state: &State,
     form: Form,
     search: &Search,
-) -> Result<Option<u64>, Fail> {
+) -> Result<Option<u64>, Fail>
+    requires { IsTrue (is_plain search.now) }
+{
     match template_fault(&state.classes, search.template.as_ref()) {
         None => Ok(first_offered(rt.alloc(), state, form, search)?),
         Some(_) => Ok(None),
