@@ -1,0 +1,153 @@
+#!/usr/bin/env python3
+"""Scripts that are too long to be written by hand, and the lines that they print over the spaces a and b.
+
+generate.py                 names the cases
+generate.py script NAME     prints a case's script
+generate.py prints NAME     prints the lines that it has to print, worked out by the rules of docs/PROTOCOL.md
+"""
+import random
+
+from scripts import (
+    BAD_JSON, BAD_REQUEST, SPACES, SPACES_ARE, TOO_LONG, Case, compact, declare, done, frame, granted, joined, main,
+    payload, reading, refused, search, shown, stream, write,
+)
+
+
+def pieces(case):
+    """A stream is answered alike in pieces of any size, and cut in two anywhere."""
+    whole = len(joined(stream(1000, 0)))
+    cuts = [range(size, whole, size) for size in (1, 2, 3, 7, 64)] + [[cut] for cut in range(whole + 1)]
+    for lease, places in enumerate(cuts, 1):
+        case.opens()
+        exchanges = stream(999 + lease, lease)
+        data = joined(exchanges)
+        for begin, end in zip([0, *places], [*places, whole]):
+            case.brings(data[begin:end])
+        for _, answer in exchanges:
+            case.says(answer)
+
+
+def prefixes(case):
+    """Each prefix of a stream is answered by its whole frames."""
+    lease = 1
+    for cut in range(len(joined(stream(1000, 0)))):
+        case.opens()
+        exchanges = stream(1000 + cut, lease)
+        case.brings(joined(exchanges)[:cut])
+        case.shuts()
+        whole = [n for n in range(len(exchanges)) if len(joined(exchanges[: n + 1])) <= cut]
+        lease += 1 in whole
+        for n in whole:
+            case.says(exchanges[n][1])
+
+
+def in_turn(case):
+    """Two sessions bring a byte each in turn, and each gets its own answers."""
+    case.opens()
+    case.opens()
+    of = {1: stream(1, 1), 2: [(SPACES, SPACES_ARE), *stream(2, 2)]}
+    for place in range(len(joined(of[2]))):  # the longer one
+        for session, exchanges in of.items():
+            case.brings(joined(exchanges)[place : place + 1], session)
+            for n, (_, answer) in enumerate(exchanges, 1):
+                if len(joined(exchanges[:n])) == place + 1:
+                    case.says(answer, session)
+
+
+def lengths(case):
+    """Frames about the limit. A longer one closes its session."""
+    for length in range(65_530, 65_541):
+        case.opens()
+        case.asks(compact(SPACES).ljust(length).encode(), SPACES_ARE if length <= 65_536 else TOO_LONG)
+        case.brings(frame(SPACES))
+        if length <= 65_536:
+            case.says(SPACES_ARE)
+
+
+def nesting(case):
+    """Arrays nested more than 127 deep are no JSON."""
+    case.opens()
+    for depth in (100, 127, 128, 1000):
+        case.asks(b"[" * depth + b"]" * depth, BAD_REQUEST if depth <= 127 else BAD_JSON)
+        case.asks(SPACES, SPACES_ARE)
+
+
+def changes(case):
+    """A changed byte in a request costs one answer and no more: the request behind it is answered."""
+    requests = [
+        {"id": 1, "op": "take", "space": "a", "template": None, "timeout": 0},
+        {"id": 2, "op": "renew", "lease": 17, "ms": -1},
+        {"id": 3, "op": "cancel_all", "leases": [7, 8, -9]},
+        {"id": 4, "op": "spaces"},
+    ]
+    chance = random.Random(1)
+    case.opens()
+    for request in requests * 250:
+        data = bytearray(payload(request))
+        data[chance.randrange(len(data))] ^= chance.randrange(1, 256)
+        case.brings(frame(bytes(data)) + frame(SPACES))
+        case.says(reading(bytes(data)))
+        case.says(SPACES_ARE)
+
+
+def classes(case):
+    """A class is 16 deep at most, has 32 fields at most with those that it inherits, and there are 1,024 at most."""
+    case.opens()
+    declared = 0
+    rows = [(f"D{n}", n and f"D{n - 1}", 0, n < 16) for n in range(17)]
+    rows += [("F", None, 33, False), ("F", None, 32, True), ("G", "F", 1, False), ("G", "F", 0, True)]
+    rows += [("H", None, 20, True), ("I", "H", 13, False), ("I", "H", 12, True), ("J", "I", 1, False)]
+    rows += [(f"N{n}", None, 1, True) for n in range(1024 - 16 - 4)]
+    for name, parent, count, is_declared in rows:
+        fields = {f"{name}{n}": "int" for n in range(count)}
+        case.asks(declare(1, name, fields, parent or None), done(1) if is_declared else refused(1, 6))
+        declared += is_declared
+    assert declared == 1024
+    case.asks(declare(2, "New", {}), refused(2, 17))
+    case.asks(declare(3, "New", {"n": "int"}, "D0"), refused(3, 17))
+    case.asks(declare(4, "New", {}, "New"), refused(4, 8))
+    case.asks(declare(5, "New", {"F0": "int"}, "F"), refused(5, 6))
+    case.asks(declare(6, "N0", {}), refused(6, 7))
+    case.asks(declare(7, "N0", {"N00": "int"}), done(7))
+    case.asks(write(8, "D15", {}), granted(8, 1))
+    case.asks(search(9, "read", "D0", {}), shown(9, "D15", {}))
+
+
+def batches(case):
+    """A request has 1 to 64 leases, which are done in their order."""
+    case.opens()
+    case.asks(declare(1, "Job", {"k": "int"}), done(1))
+    for lease in range(1, 65):
+        case.asks(write(2, "Job", {"k": lease}), granted(2, lease))
+    leases = list(range(64, 0, -1))
+    renewals = {"id": 3, "op": "renew_all", "leases": [[lease, 10 * lease] for lease in leases]}
+    case.asks(renewals, {"id": 3, "ok": [{"lease": lease, "ms": 10 * lease} for lease in leases]})
+    for wrong in ([], leases + [1]):
+        case.asks({"id": 4, "op": "cancel_all", "leases": wrong}, refused(4, 2))
+    case.asks({"id": 5, "op": "cancel_all", "leases": leases}, {"id": 5, "ok": [{"lease": lease} for lease in leases]})
+    case.asks(search(6, "read", "Job", {}), done(6))
+
+
+def texts(case):
+    """An entry has 8,192 bytes of text at most, and is read back whole, more often than a buffer holds."""
+    case.opens()
+    case.asks(declare(1, "Note", {"one": "text", "two": "text"}), done(1))
+    fields = {"one": "é" * 2048 + "\\" * 2048, "two": "z" * 2048}
+    case.asks(write(2, "Note", fields | {"two": "z" * 2049}), refused(2, 9))
+    case.asks(write(3, "Note", fields), granted(3, 1))
+    for number in range(4, 104):
+        case.asks(search(number, "read", "Note", fields), shown(number, "Note", fields))
+
+
+def far_row(case):
+    """A row is found behind 1,000 others."""
+    case.opens()
+    case.asks(declare(1, "Job", {"k": "int"}), done(1))
+    for lease in range(1, 1002):
+        case.asks(write(2, "Job", {"k": lease}), granted(2, lease))
+    case.asks(search(3, "take", "Job", {"k": 1001}), shown(3, "Job", {"k": 1001}))
+    case.asks(search(4, "take", "Job", {"k": 1001}), done(4))
+
+
+if __name__ == "__main__":
+    main([pieces, prefixes, in_turn, lengths, nesting, changes, classes, batches, texts, far_row])
