@@ -43,7 +43,8 @@ fn run(rt: &HostRuntime, matches: &ArgMatches<'_>) -> io::Result<ExitCode> {
         return Ok(ExitCode::from(BAD_ARGUMENTS));
     };
     let (mut input, mut out, mut faults) = (rt.stdin(), rt.stdout(), rt.stderr());
-    Ok(ExitCode::from(script(alloc, &config, &mut input, &mut out, &mut faults)))
+    let ending = script(alloc, &config, &mut input, &mut out, &mut faults);
+    Ok(ExitCode::from(ending.status))
 }
 
 /// The config of the names that were given, or none where they break its limits.

@@ -1,3 +1,4 @@
 mod Parts
 mod Asking
 mod Reading
+mod Beginnings

@@ -1,3 +1,4 @@
 pub mod Script
 pub mod Print
+pub mod Faults
 pub mod Exit

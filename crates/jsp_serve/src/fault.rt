@@ -4,22 +4,16 @@ ghost use Rattle.jsp_serve.specs.declared.fault.ScriptFault.TheVariants as fault
 
 use jsp_types::NoMemory;
 use std::alloc::AllocFailed;
-use thiserror::Error;
 
-/// Why a script ends early. Its text is what a user is told.
-#[derive(Clone, Copy, Debug, PartialEq, Eq, Error)]
+/// Why a script ends early. What a user is told of it is in `specs/Faults.antt`.
+#[derive(Clone, Copy, Debug, PartialEq, Eq)]
 pub(crate) enum ScriptFault {
-    #[error("cannot read")]
     CannotRead,
     /// It is longer than 16,777,216 bytes.
-    #[error("input too long")]
     TooLong,
     /// The first line that isn't understood, counted from 1.
-    #[error("line {0}: not understood")]
     NotUnderstood(u64),
-    #[error("out of memory")]
     NoMemory,
-    #[error("cannot write")]
     CannotWrite,
 }
 

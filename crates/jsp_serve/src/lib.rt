@@ -6,7 +6,8 @@
 //! over any reader and writer that say which they hold: the acts are those that the lines ask for
 //! (`specs/Script.antt`), and what is written are the lines of one legal run that belongs to these
 //! acts (`specs/Print.antt`). A script that is too long or has a line that isn't understood is
-//! refused whole, and nothing is written.
+//! refused whole, and nothing is written. One line tells why a script failed, and none is written
+//! where it didn't (`specs/Faults.antt`).
 #![tactic(auto)]
 
 mod fault;
@@ -16,5 +17,6 @@ mod print;
 mod run;
 #[cfg(test)]
 mod tests;
+mod writing;
 
-pub use run::{Status, script};
+pub use run::{Ending, Status, script};

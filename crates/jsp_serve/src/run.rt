@@ -3,10 +3,13 @@ ghost use Rattle.std.specs.Prelude.{◌≡◌, ◌≤◌, ◌^◌, IfOk, IfErr, 
 ghost use Rattle.std.specs.Io.KnownBytes.{Appends, Keeps};
 ghost use Rattle.jsp_serve.specs.Script.{lines_of, FailsBy};
 ghost use Rattle.jsp_serve.specs.Print.{Prints, Wrote, IsRefused};
+ghost use Rattle.jsp_serve.specs.Faults.{AppendsSome, Fails, ReadsNone, StopsBy};
+ghost use Rattle.jsp_serve.specs.declared.fault.ScriptFault.TheVariants as fault;
 
 use crate::fault::ScriptFault;
 use crate::lines::read_acts;
 use crate::print::printed;
+use crate::writing::{tell, write_bytes};
 use jsp_drive::drive;
 use jsp_rows::{Config, RowsHouse};
 use std::alloc::Global;
@@ -21,8 +24,16 @@ const LONGEST: u64 = 16_777_216;
 pub enum Status {
     /// All was run and printed.
     Done,
-    /// It ended at the first fault met, which was told.
+    /// It ended at the first fault met.
     Failed,
+}
+
+/// What came of a script.
+#[derive(Clone, Copy, Debug, PartialEq, Eq)]
+pub struct Ending {
+    pub status: Status,
+    /// Whether all that was to be told of a fault was told. The writer that it is told on may fail too.
+    pub is_told: bool,
 }
 
 impl From<Status> for ExitCode {
@@ -45,25 +56,31 @@ impl From<Status> for ExitCode {
 /// below 2^64, one blank stands between parts, JSON is the rest of the line, and HEX is one or more
 /// pairs of hex digits. Empty lines and lines that begin with `#` are passed over. For each answer
 /// `c JSON` is written to `out`, line by line in the order in which the answers are given. The first
-/// fault met is told on `faults`. Where a line isn't understood or the input is too long, nothing is
-/// run. (This profile's own.)
+/// fault met is told on `faults` by one line. Where a line isn't understood or the input is too long,
+/// nothing is run. (This profile's own.)
 pub fn script<R: Read, W: Write, F: Write>(
     alloc: Global,
     config: &Config,
     reader: &mut R,
     out: &mut W,
     faults: &mut F,
-) -> Status
-    ensures refused { IfSome (R.remaining reader.old) (λ text. IsRefused text → (result ≡ Status.Failed) × Keeps (W.contents out.old) (W.contents out.new)) }
-    ensures done { result ≡ Status.Done → IfSome (R.remaining reader.old) (λ text. Wrote config.now text (W.contents out.old) (W.contents out.new)) }
+) -> Ending
+    ensures refused { IfSome (R.remaining reader.old) (λ text. IsRefused text → (result.status ≡ Status.Failed) × Keeps (W.contents out.old) (W.contents out.new)) }
+    ensures done { result.status ≡ Status.Done → IfSome (R.remaining reader.old) (λ text. Wrote config.now text (W.contents out.old) (W.contents out.new)) }
+    // No fault is told where all was done.
+    ensures quiet { result.status ≡ Status.Done → Keeps (F.contents faults.old) (F.contents faults.new) }
+    // A fault that applies is told by one line, where the script failed.
+    ensures failed { result.status ≡ Status.Failed → Fails config.now (R.remaining reader.old) (W.contents out.old) (W.contents out.new) (F.contents faults.old) (F.contents faults.new) result.is_told }
 {
     match run_script(alloc, config, reader, out) {
-        Ok(()) => Status::Done,
-        Err(fault) => {
-            // The status tells of it too, where it can't be written.
-            let _ = writeln!(faults, "jsp: {fault}");
-            Status::Failed
-        }
+        Ok(()) => Ending {
+            status: Status::Done,
+            is_told: true,
+        },
+        Err(fault) => Ending {
+            status: Status::Failed,
+            is_told: tell(faults, fault),
+        },
     }
 }
 
@@ -75,6 +92,7 @@ fn run_script<R: Read, W: Write>(
 ) -> Result<(), ScriptFault>
     ensures ok { OnOk result (IfSome (R.remaining reader.old) (λ text. Wrote config.now text (W.contents out.old) (W.contents out.new))) }
     ensures err { OnErr result (IfSome (R.remaining reader.old) (λ text. IsRefused text → Keeps (W.contents out.old) (W.contents out.new))) }
+    ensures stops { IfErr result (StopsBy config.now (R.remaining reader.old) (W.contents out.old) (W.contents out.new)) }
 {
     let text = read_text(alloc, reader)?;
     let printed = answers(alloc, config, text.as_slice())?;
@@ -96,6 +114,7 @@ pub(crate) fn answers(alloc: Global, config: &Config, text: &[u8]) -> Result<Vec
 fn read_text<R: Read>(alloc: Global, reader: &mut R) -> Result<Vec<u8>, ScriptFault>
     ensures within { IfOk result (λ text. length text.items ≤ 2 ^ 24) }
     ensures bytes { IfOk result (λ text. IfSome (R.remaining reader.old) (λ all. text.items ≡ all)) }
+    ensures none { IfErr result (ReadsNone (R.remaining reader.old)) }
 {
     let mut text = Vec::new(alloc);
     // One byte more than a script may have shows that it has too many.
@@ -108,9 +127,11 @@ fn read_text<R: Read>(alloc: Global, reader: &mut R) -> Result<Vec<u8>, ScriptFa
 }
 
 fn write_text<W: Write>(out: &mut W, text: &[u8]) -> Result<(), ScriptFault>
-    ensures { OnOk result (Appends (W.contents out.old) (W.contents out.new) text.now) }
+    ensures ok { OnOk result (Appends (W.contents out.old) (W.contents out.new) text.now) }
+    ensures err { OnErr result (AppendsSome (W.contents out.old) (W.contents out.new) text.now) }
+    ensures fault { IfErr result (λ e. e ≡ fault.CannotWrite) }
 {
-    if out.write_all(text).is_err() || out.flush().is_err() {
+    if !write_bytes(out, text) || out.flush().is_err() {
         return Err(ScriptFault::CannotWrite);
     }
     Ok(())

@@ -1,6 +1,6 @@
 //! What no script file can show: readers and writers that fail, and calls of the parts. Whole scripts and what they
 //! print are in `examples/` of the repository.
-use crate::{Status, script};
+use crate::{Ending, Status, script};
 use jsp_drive::{Act, drive};
 use jsp_rows::{Config, RowsHouse};
 use jsp_types::{Items, Text};
@@ -24,8 +24,15 @@ fn ends(alloc: Global, reader: &mut impl Read, out: &mut impl Write) -> Result<S
     let config = one_space(alloc)?;
     let mut faults = Vec::new(alloc);
     let ending = match script(alloc, &config, reader, out, &mut faults) {
-        Status::Done => "done",
-        Status::Failed => "failed",
+        Ending { is_told: false, .. } => "untold",
+        Ending {
+            status: Status::Done,
+            ..
+        } => "done",
+        Ending {
+            status: Status::Failed,
+            ..
+        } => "failed",
     };
     let told = String::from_utf8_lossy(alloc, faults.as_slice())?;
     Ok(format!(in alloc; "{told}{ending}")?)
@@ -113,14 +120,18 @@ fn a_writer_that_breaks_or_is_full_is_told(rt: HostRuntime) -> Result<(), Fail> 
 fn a_fault_that_cannot_be_told_is_still_a_failure(rt: HostRuntime) -> Result<(), Fail> {
     let alloc = rt.alloc();
     let (config, mut out) = (one_space(alloc)?, Vec::new(alloc));
-    let status = script(
+    let ending = script(
         alloc,
         &config,
         &mut "what".as_bytes(),
         &mut out,
         &mut Breaks,
     );
-    assert_eq!(rt; status, Status::Failed);
+    let untold = Ending {
+        status: Status::Failed,
+        is_told: false,
+    };
+    assert_eq!(rt; ending, untold);
     Ok(())
 }
 

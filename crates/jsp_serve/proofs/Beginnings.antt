@@ -1,0 +1,33 @@
+-- Bytes that are written in parts.
+use Rattle.std.proofs.Common.{◌≡◌, ℕ, ◌-◌, List, [], ◌++◌, Option, length, take, drop, ap, sym, ◌∙◌, append_assoc, append-nil, take-append-drop}
+use Rattle.std.specs.Io.KnownBytes.{Appends}
+use Rattle.std.proofs.KnownBytes.{Appends-trans}
+use Rattle.std.proofs.lemmas.List.{take_rest}
+use Rattle.jsp_serve.specs.Faults.{AppendsSome}
+
+-- all of them are some of them
+pub some_from_all : (old new : Option (List ℕ)) (text : List ℕ) → Appends old new text → AppendsSome old new text
+some_from_all old new text h = record { written = text; rest = []; text_is = sym (append-nil text); appends = h }
+
+-- some of the first part, and nothing of the second
+pub some_of_first : (old new : Option (List ℕ)) (first second : List ℕ) → AppendsSome old new first → AppendsSome old new (first ++ second)
+some_of_first old new first second h = record {
+  written = h.written;
+  rest = h.rest ++ second;
+  text_is = ap (λ l. l ++ second) h.text_is ∙ append_assoc h.written h.rest second;
+  appends = h.appends;
+}
+
+-- the first part, and some of the second
+pub some_of_second : (old mid new : Option (List ℕ)) (first second : List ℕ) → Appends old mid first → AppendsSome mid new second → AppendsSome old new (first ++ second)
+some_of_second old mid new first second whole h = record {
+  written = first ++ h.written;
+  rest = h.rest;
+  text_is = ap (λ l. first ++ l) h.text_is ∙ sym (append_assoc first h.written h.rest);
+  appends = Appends-trans old mid new first h.written whole h.appends;
+}
+
+-- what was taken from the front of the rest
+pub moves_front : (all done rest : List ℕ) (n : ℕ) → all ≡ done ++ rest → all ≡ (done ++ take n rest) ++ take (length rest - n) (drop n rest)
+moves_front all done rest n e =
+    e ∙ ap (λ l. done ++ l) (sym (take-append-drop n rest)) ∙ sym (append_assoc done (take n rest) (drop n rest)) ∙ ap (λ l. (done ++ take n rest) ++ l) (sym (take_rest rest n))
