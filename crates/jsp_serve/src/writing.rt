@@ -1,5 +1,5 @@
 //! Bytes to a writer that may fail, and the line that tells of a fault.
-ghost use Rattle.std.specs.Prelude.{◌++◌, ◌∷◌, [], IsTrue, codes, decimal};
+ghost use Rattle.std.specs.Prelude.{◌++◌, IsTrue, codes, decimal};
 ghost use Rattle.std.specs.Io.KnownBytes.{Appends};
 ghost use Rattle.jsp_serve.specs.Faults.{AppendsSome, line_telling};
 
