@@ -1,13 +1,5 @@
-pub mod Accepting
-pub mod Answering
-pub mod Batching
-pub mod Ending
-pub mod Finding
-pub mod Handing
-pub mod Legality
-pub mod Limits
-pub mod Offering
-pub mod Posting
-pub mod Refusing
-pub mod Renewing
+pub mod AllRows
+pub mod Chosen
 pub mod RunSoFar
+pub mod Sequences
+pub mod Stepping

@@ -1,8 +1,4 @@
-pub mod Outboxes
-pub mod Time
-pub mod Faults
-pub mod Rows
-pub mod Offers
+pub mod Offering
+pub mod Changing
 pub mod Replay
 pub mod Spaces
-pub mod Leases

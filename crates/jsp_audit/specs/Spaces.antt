@@ -1,9 +1,6 @@
--- Spaces and their names.
+-- Spaces at first.
 use Rattle.std.specs.Prelude.{ℕ, List, map}
 use Rattle.jsp_model.specs.declared.state.Space.{Space}
-
-abbrev pub names_of : List Space → List (List ℕ)
-names_of spaces = map (λ p. p.name) spaces
 
 -- spaces in which nothing was done yet; a space's first crash count is 1
 abbrev pub new_spaces : List (List ℕ) → List Space

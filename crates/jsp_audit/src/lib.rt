@@ -1,39 +1,38 @@
 //! The abstract machine run as a program: whether a step is legal in a state, what it says, and the
 //! state after it.
 //!
-//! Each call has a definition of jsp_model as its contract: `is_legal`, `said` and `apply` are those
-//! of `specs/Steps.antt` and `specs/Answers.antt` there, over a state within its limits. A step is
+//! Each call has a definition of jsp_model as its contract: `is_legal` and `apply` those of
+//! `specs/Steps.antt` there, `said` that of `specs/Answers.antt`, `touches` that of
+//! `specs/Touches.antt`, for every step and request and over every state within its limits. A step is
 //! applied whole, or not at all where a growth is refused. `replay` runs a list of steps from the
 //! empty state of a config and `replay_from` from any state: they answer Ok exactly where the steps
 //! are a run, with the state after them and all that they say, and else the place of the first step
-//! that isn't legal where it stands. A house that keeps such a state chooses its steps with
-//! `refusal`, `first_offered` and `due`.
+//! that isn't legal where it stands. A house that keeps such a state chooses its steps with what is
+//! given out again here from the crates below.
 #![tactic(auto)]
 
-mod answers;
+mod answering;
 mod applying;
-mod batches;
+mod asking;
+mod changing;
+mod choosing;
+mod deciding;
 mod emptiness;
-mod ends;
-mod leases;
 mod legal;
-mod lookup;
-mod making;
-mod offers;
-mod outboxes;
-mod refusals;
+mod offering;
 mod replaying;
-mod requests;
-mod rows;
-mod sessions;
+mod saying;
+mod telling;
 #[cfg(test)]
 mod tests;
+mod touching;
 
-pub use applying::{apply, hand_out, said, shut};
+pub use applying::{apply, hand_out, shut};
 pub use emptiness::empty_image;
-pub use ends::due;
-pub use legal::{is_legal, waiting};
-pub use lookup::is_open;
-pub use offers::first_offered;
-pub use refusals::refusal;
+pub use jsp_requests::{refusal, request_for_rows};
+pub use jsp_state::{choose, due, is_open, is_quiet, waiting};
+pub use legal::is_legal;
+pub use offering::available;
 pub use replaying::{ReplayFault, Replayed, replay, replay_from};
+pub use saying::said;
+pub use touching::{are_quiet, touches};

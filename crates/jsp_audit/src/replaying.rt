@@ -1,14 +1,15 @@
 //! Running a list of steps.
-ghost use Rattle.std.specs.Prelude.{◌≡◌, ◌++◌, true, IsTrue, IfOk, IfErr, OnOk, option_to_list};
+ghost use Rattle.std.specs.Prelude.{◌≡◌, ◌++◌, true, IsTrue, IfOk, IfErr, OnOk};
 ghost use Rattle.jsp_model.specs.Lookup.{empty};
 ghost use Rattle.jsp_model.specs.Answers.{said as said_by};
 ghost use Rattle.jsp_model.specs.Steps.{is_legal as legal, next};
 ghost use Rattle.jsp_model.specs.Runs.{IsRun, state_after, said_in, first_illegal};
 ghost use Rattle.jsp_audit.specs.Replay.{FailsAt, StopsAt};
 
-use crate::applying::{apply, said};
+use crate::applying::apply;
 use crate::emptiness::empty_image;
 use crate::legal::is_legal;
+use crate::saying::said;
 use jsp_model::{Config, Image, Step};
 use jsp_reply::Said;
 use jsp_types::NoMemory;
@@ -97,20 +98,7 @@ fn make_step(
     ensures made { OnOk result (image.new ≡ next image.old step.now) }
     ensures told { OnOk result (told.new.items ≡ told.old.items ++ said_by image.old step.now) }
 {
-    let saying = said(alloc, image, step)?;
-    add(told, saying)?;
+    let mut sayings = said(alloc, image, step)?;
+    told.append(&mut sayings)?;
     apply(alloc, image, step)
-}
-
-/// Adds what a step said.
-fn add(told: &mut Vec<(u64, Said)>, saying: Option<(u64, Said)>) -> Result<(), NoMemory>
-    ensures { OnOk result (told.new.items ≡ told.old.items ++ option_to_list saying) }
-{
-    match saying {
-        None => Ok(()),
-        Some(saying) => {
-            told.push(saying)?;
-            Ok(())
-        }
-    }
 }

@@ -16,7 +16,7 @@ use Rattle.jsp_model.specs.declared.step.Step.{Step}
 use Rattle.jsp_model.specs.declared.step.Step.TheVariants as step
 use Rattle.jsp_model.specs.declared.house.Input.TheVariants as input
 use Rattle.jsp_model.specs.Lookup.{is_open}
-use Rattle.jsp_model.specs.House.{is_free, bare, own_of, accepts}
+use Rattle.jsp_model.specs.House.{is_unasked, bare, own_of, accepts}
 use Rattle.jsp_model.proofs.Joining.{own_of-append}
 use Rattle.jsp_model.proofs.Waiting.{asks_built, all_built}
 use Rattle.jsp_drive.specs.declared.acts.Act.{Act}
@@ -142,7 +142,7 @@ no_hands (x ∷ xs) h =
 pub asked_in_plain : (xs : List Step) → ArePlain (own_of xs) → asked_in xs ≡ own_of xs
 asked_in_plain xs h = no_hands (own_of xs) h.keep
 
-free_keeps : (x : Step) → is_free x ≡ true → is_hand_out x ≡ false
+free_keeps : (x : Step) → is_unasked x ≡ true → is_hand_out x ≡ false
 free_keeps (step.Open s) h = refl
 free_keeps (step.Shut s) h = refl
 free_keeps (step.Clock t) h = refl
@@ -170,11 +170,11 @@ bare_keeps (step.Vote x space) = refl
 bare_keeps (step.Decide x commits) = refl
 bare_keeps (step.HandOut s n) = refl
 
-hand_own_at : (b : Bool) (x : Step) (xs : List Step) → is_free x ≡ b → list_any is_hand_out (own_of xs) ≡ list_any is_hand_out xs
+hand_own_at : (b : Bool) (x : Step) (xs : List Step) → is_unasked x ≡ b → list_any is_hand_out (own_of xs) ≡ list_any is_hand_out xs
     → list_any is_hand_out (own_of (x ∷ xs)) ≡ list_any is_hand_out (x ∷ xs)
 hand_own_at true x xs is rest = rw is (rw (free_keeps x is) rest)
 hand_own_at false x xs is rest = rw is (rw (bare_keeps x) (rw rest refl))
 
 pub hand_own : (xs : List Step) → list_any is_hand_out (own_of xs) ≡ list_any is_hand_out xs
 hand_own [] = refl
-hand_own (x ∷ xs) = hand_own_at (is_free x) x xs refl (hand_own xs)
+hand_own (x ∷ xs) = hand_own_at (is_unasked x) x xs refl (hand_own xs)

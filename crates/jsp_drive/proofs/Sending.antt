@@ -9,15 +9,15 @@ use Rattle.jsp_model.specs.declared.state.State.{State}
 use Rattle.jsp_model.specs.declared.state.Outbox.{Outbox}
 use Rattle.jsp_model.specs.declared.step.Step.{Step}
 use Rattle.jsp_model.specs.declared.step.Step.TheVariants as step
-use Rattle.jsp_model.specs.Steps.{hand_out, outbox_of}
+use Rattle.jsp_model.specs.Outboxes.{hand_out, outbox_of}
 use Rattle.jsp_model.specs.Runs.{state_after, said_to}
 use Rattle.jsp_model.specs.House.{Makes, handed_out, first_waiting, first_box}
-use Rattle.jsp_model.specs.Image.{are_outboxes}
+use Rattle.jsp_model.specs.Limits.{are_outboxes}
 use Rattle.jsp_model.proofs.Joining.{Makes-none, Makes-then, said_to-append, to_session}
 use Rattle.jsp_model.proofs.Outboxes.{answers_in, rising_of, hand_out_first, hand_out_step, hand_out_silent}
 use Rattle.jsp_drive.specs.declared.acts.Sent.{Sent}
 use Rattle.jsp_drive.specs.Tie.{frame_for, asked_in}
-use Rattle.jsp_drive.specs.Calls.{frames_of, Sends}
+use Rattle.jsp_drive.specs.Calls.{frames_sent, Sends}
 use Rattle.jsp_drive.proofs.Asking.{asked_in-append}
 
 -- so far these boxes were handed out
@@ -30,7 +30,7 @@ pub record Sending (n : ℕ) (old now : State) (log log' : List Step) (sent sent
   pub nothing_asked : asked_in steps ≡ []
   pub silent : (s : ℕ) → said_to s old steps ≡ []
   pub now_is : now ≡ record old { outboxes = now.outboxes }
-  pub sent_is : sent' ≡ sent ++ flat_map (frames_of n) done
+  pub sent_is : sent' ≡ sent ++ flat_map (frames_sent n) done
 
 pub sending_start : (n : ℕ) (st : State) (log : List Step) (sent : List Sent) → are_outboxes st.outboxes ≡ true → Sending n st st log log sent sent
 sending_start n st log sent h = record {
@@ -89,7 +89,7 @@ pub sending_more : (n s most : ℕ) (old mid now : State) (log log' log'' : List
     → answers ≡ take most (outbox_of mid s) → length answers < most → Makes mid now log' log'' (handed_out s (length answers))
     → sent'' ≡ sent' ++ map (frame_for n s) answers
     → Sending n old now log log'' sent sent'' × (length now.outboxes < length mid.outboxes)
-sending_more n s most old mid now log log' log'' sent sent' sent'' answers h waits is short makes posted =
+sending_more n s most old mid now log log' log'' sent sent' sent'' answers h waits is short makes appended =
     let first = first_is mid.outboxes s waits in
     let b = first.0 in
     let boxes = first.1 in
@@ -97,7 +97,7 @@ sending_more n s most old mid now log log' log'' sent sent' sent'' answers h wai
     let rising : are_outboxes (b ∷ boxes) ≡ true = ap are_outboxes (sym first.2) ∙ h.rising in
     let hand = hands_out s most b boxes mid now answers first.2 rising first.3 is short makes.view in
     let left : now.outboxes ≡ boxes = ap (λ (w : State). w.outboxes) hand.now_is in
-    let frames : map (frame_for n s) answers ≡ frames_of n b = ap (map (frame_for n s)) hand.all ∙ ap (λ k. map (frame_for n k) b.answers) (sym first.3) in (
+    let frames : map (frame_for n s) answers ≡ frames_sent n b = ap (map (frame_for n s)) hand.all ∙ ap (λ k. map (frame_for n k) b.answers) (sym first.3) in (
       record {
         done = h.done ++ b ∷ [];
         boxes = h.boxes ∙ ap (λ w. h.done ++ w) (first.2 ∙ ap (λ w. b ∷ w) (sym left)) ∙ sym (append_assoc h.done (b ∷ []) now.outboxes);
@@ -107,8 +107,8 @@ sending_more n s most old mid now log log' log'' sent sent' sent'' answers h wai
         nothing_asked = asked_in-append h.steps steps ∙ rw (h.nothing_asked, hand.nothing_asked) refl;
         silent = λ t. said_to-append t old h.steps steps ∙ rw (h.silent t, h.makes.view, hand.silent t) refl;
         now_is = hand.now_is ∙ ap (λ (w : State). record w { outboxes = boxes }) h.now_is ∙ ap (λ (w : List Outbox). record old { outboxes = w }) (sym left);
-        sent_is = posted ∙ ap (λ w. w ++ map (frame_for n s) answers) h.sent_is ∙ append_assoc sent (flat_map (frames_of n) h.done) (map (frame_for n s) answers)
-            ∙ ap (λ w. sent ++ w) (ap (λ w. flat_map (frames_of n) h.done ++ w) (frames ∙ sym (append-nil (frames_of n b))) ∙ sym (flat_map-append (frames_of n) h.done (b ∷ [])));
+        sent_is = appended ∙ ap (λ w. w ++ map (frame_for n s) answers) h.sent_is ∙ append_assoc sent (flat_map (frames_sent n) h.done) (map (frame_for n s) answers)
+            ∙ ap (λ w. sent ++ w) (ap (λ w. flat_map (frames_sent n) h.done ++ w) (frames ∙ sym (append-nil (frames_sent n b))) ∙ sym (flat_map-append (frames_sent n) h.done (b ∷ [])));
       },
       omega (arith, ap length first.2, ap length left),
     )
@@ -129,5 +129,5 @@ sends_all n old now log log' sent sent' h none =
       nothing_asked = h.nothing_asked;
       silent = h.silent;
       new_is = h.now_is ∙ ap (λ (w : List Outbox). record old { outboxes = w }) empty;
-      sent_is = h.sent_is ∙ ap (λ w. sent ++ flat_map (frames_of n) w) all;
+      sent_is = h.sent_is ∙ ap (λ w. sent ++ flat_map (frames_sent n) w) all;
     }

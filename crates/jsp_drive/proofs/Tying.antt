@@ -16,10 +16,11 @@ use Rattle.jsp_model.specs.declared.state.Outbox.{Outbox}
 use Rattle.jsp_model.specs.declared.step.Step.{Step}
 use Rattle.jsp_model.specs.Lookup.{contains, empty, is_open}
 use Rattle.jsp_model.specs.Due.{due}
-use Rattle.jsp_model.specs.Steps.{is_rising, outbox_of}
+use Rattle.jsp_model.specs.Steps.{is_rising}
+use Rattle.jsp_model.specs.Outboxes.{outbox_of}
 use Rattle.jsp_model.specs.Runs.{is_run, IsRun, state_after, said_to}
 use Rattle.jsp_model.specs.House.{own_of, touched}
-use Rattle.jsp_model.specs.Image.{are_outboxes}
+use Rattle.jsp_model.specs.Limits.{are_outboxes}
 use Rattle.jsp_model.proofs.Joining.{IsRun-append, Makes-then, said_to-append}
 use Rattle.jsp_model.proofs.Outboxes.{answers_in, are_above, rising_of, outboxes_run}
 use Rattle.jsp_model.proofs.Waiting.{NothingWaits, nothing_at_first, run_keeps, all_quiet}
@@ -30,7 +31,7 @@ use Rattle.jsp_drive.specs.declared.acts.Sent.{Sent}
 use Rattle.jsp_drive.specs.Heard.{framed}
 use Rattle.jsp_drive.specs.Lines.{AreLines, pending, rest_of}
 use Rattle.jsp_drive.specs.Tie.{is_hand_out, asked_in, HearsPiece, Asks, frame_for, Part, Tied, bytes_to}
-use Rattle.jsp_drive.specs.Calls.{Performs, frames_of, Sends}
+use Rattle.jsp_drive.specs.Calls.{Performs, frames_sent, Sends}
 use Rattle.jsp_drive.proofs.Asking.{asks_plain, asked_in-append, asked_in_plain, hand_own}
 
 -- ---- what is sent at an act
@@ -75,9 +76,9 @@ lie_in told (b ∷ boxes) h is =
     )
 
 frames_by_session : (n : ℕ) (told : ℕ → List Reply) (boxes : List Outbox) → LieIn told boxes
-    → flat_map (frames_of n) boxes ≡ flat_map (λ s. map (frame_for n s) (told s)) (sessions boxes)
+    → flat_map (frames_sent n) boxes ≡ flat_map (λ s. map (frame_for n s) (told s)) (sessions boxes)
 frames_by_session n told [] h = refl
-frames_by_session n told (b ∷ boxes) h = rw h.0 (ap (λ w. frames_of n b ++ w) (frames_by_session n told boxes h.1))
+frames_by_session n told (b ∷ boxes) h = rw h.0 (ap (λ w. frames_sent n b ++ w) (frames_by_session n told boxes h.1))
 
 -- ---- the part of an act
 
@@ -149,7 +150,7 @@ module _ {S : Type 0} where
       let nothing : NothingWaits now = subst NothingWaits (sym q.new_is) (record { blocked = said.nothing_waits.blocked; registrations = said.nothing_waits.registrations }) in
       record {
         part = part;
-        frames = flat_map (frames_of n) mid.outboxes;
+        frames = flat_map (frames_sent n) mid.outboxes;
         log_is = makes.log;
         sent_is = q.sent_is;
         view = makes.view;

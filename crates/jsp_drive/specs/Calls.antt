@@ -43,8 +43,8 @@ module _ {S : Type 0} where
     pub are_lines : AreLines lines'
 
 -- the frames of all that lies in an outbox
-abbrev pub frames_of : ℕ → Outbox → List Sent
-frames_of n b = map (frame_for n b.session) b.answers
+abbrev pub frames_sent : ℕ → Outbox → List Sent
+frames_sent n b = map (frame_for n b.session) b.answers
 
 -- all that waits is handed out, by session number, and sent
 pub record Sends (n : ℕ) (old new : State) (log log' : List Step) (sent sent' : List Sent) : Type 0 where
@@ -53,4 +53,4 @@ pub record Sends (n : ℕ) (old new : State) (log log' : List Step) (sent sent' 
   pub nothing_asked : asked_in steps ≡ []
   pub silent : (s : ℕ) → said_to s old steps ≡ []
   pub new_is : new ≡ record old { outboxes = [] }
-  pub sent_is : sent' ≡ sent ++ flat_map (frames_of n) old.outboxes
+  pub sent_is : sent' ≡ sent ++ flat_map (frames_sent n) old.outboxes

@@ -1,6 +1,6 @@
 //! What was said is handed out and sent.
 ghost use Rattle.std.specs.Prelude.{◌≡◌, ◌++◌, map, IfOk, OnOk, IsTrue};
-ghost use Rattle.jsp_model.specs.Image.{are_outboxes};
+ghost use Rattle.jsp_model.specs.Limits.{are_outboxes};
 ghost use Rattle.jsp_drive.specs.Heard.{framed};
 ghost use Rattle.jsp_drive.specs.Tie.{frame_for};
 ghost use Rattle.jsp_drive.specs.Calls.{Sends};
@@ -21,7 +21,7 @@ pub fn encode(alloc: Global, said: &Said) -> Result<Vec<u8>, NoMemory>
 }
 
 /// Sends a session's answers.
-fn post(
+fn send_to(
     alloc: Global,
     act: usize,
     session: u64,
@@ -54,7 +54,7 @@ pub(crate) fn send_all<H: House>(
 {
     'sessions: while let Some(session) = house.first_waiting() {
         match house.hand_out(session, u64::MAX, steps) {
-            Ok(answers) => post(alloc, act, session, answers.as_slice(), sent)?,
+            Ok(answers) => send_to(alloc, act, session, answers.as_slice(), sent)?,
             Err(_) => return Err(NoMemory),
         }
     }

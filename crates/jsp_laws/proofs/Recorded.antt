@@ -20,11 +20,11 @@ use Rattle.jsp_laws.proofs.Sound.{without, sound_empty}
 use Rattle.jsp_laws.proofs.Made.{kind_of, step_changes}
 use Rattle.jsp_laws.proofs.Walk.{Legal, some_is, at_legal, trace}
 use Rattle.jsp_laws.proofs.Joins.{joins, JoinedStep, same, grew, cast, ended, joined_change, dead_this}
-use Rattle.jsp_laws.proofs.Votes.{Apart, apart_pushed, apart_update, none_found, only_found, commit_crash, decided, contains_has, voting_lives}
+use Rattle.jsp_laws.proofs.Votes.{Apart, apart_pushed, apart_update, none_found, only_found, commit_crash, decided, contains_has, voting_lives, cast_as}
 
 -- ---- a commit
 
-committed_transactions : (st : State) (x : ℕ) → (commit st x).transactions ≡ without x st.transactions
+pub committed_transactions : (st : State) (x : ℕ) → (commit st x).transactions ≡ without x st.transactions
 committed_transactions st x = fold_keeps (λ (b : State). b.transactions ≡ without x st.transactions) (owe None) (λ b row e. e) (published x st.rows) (record (forget st x) { rows = committed x st.rows }) refl
 
 dead_after : (st : State) (act : Step) (x : ℕ) → commits_test x (record { state = st; step = act }) ≡ true → lives (next st act).transactions x ≡ false
@@ -55,9 +55,6 @@ has_unmapped f (x ∷ xs) y (inl e) = (x, inl refl, e)
 has_unmapped f (x ∷ xs) y (inr h) = let found = has_unmapped f xs y h in (found.0, inr found.1, found.2)
 
 -- ---- back to the vote
-
-abbrev cast_as : ℕ → ℕ → ℕ → Option (ℕ × ℕ × ℕ)
-cast_as x p crash = Some (x, p, crash)
 
 -- the step casts a vote that leaves the joined space like this
 pub record Recorded (c : Kind) (x : ℕ) (j : Joined) : Type 0 where

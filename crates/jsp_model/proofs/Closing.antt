@@ -12,11 +12,11 @@ use Rattle.jsp_lease.specs.declared.item.Rank.{Rank}
 use Rattle.jsp_lease.specs.declared.item.Rank.TheVariants as rank
 use Rattle.jsp_model.specs.Lookup.{is_open, blocked_of}
 use Rattle.jsp_model.specs.Changes.{remove}
-use Rattle.jsp_model.specs.Steps.{next, granted_rows}
+use Rattle.jsp_model.specs.Steps.{next, after_grant}
 use Rattle.jsp_model.specs.Runs.{state_after}
-use Rattle.jsp_model.specs.House.{is_free, bare, own_of}
+use Rattle.jsp_model.specs.House.{is_unasked, bare, own_of}
 
-granted_sessions : (st : State) (n : ℕ) (ns : List ℕ) (b : Option Blocked) → (granted_rows st n ns b).sessions ≡ st.sessions
+granted_sessions : (st : State) (n : ℕ) (ns : List ℕ) (b : Option Blocked) → (after_grant st n ns b).sessions ≡ st.sessions
 granted_sessions st n ns None = refl
 granted_sessions st n ns (Some b) = refl
 
@@ -28,7 +28,7 @@ removed_sessions st rank.Blocked n = refl
 removed_sessions st rank.MatchSet n = refl
 
 -- a step that nobody asked for opens and closes none
-pub free_sessions : (st : State) (x : Step) → is_free x ≡ true → (next st x).sessions ≡ st.sessions
+pub free_sessions : (st : State) (x : Step) → is_unasked x ≡ true → (next st x).sessions ≡ st.sessions
 unfolding next
 free_sessions st (step.Grant n ns) h = granted_sessions st n ns (blocked_of st n)
 free_sessions st (step.Empty n) h = refl
@@ -53,11 +53,11 @@ closed_session s (k ∷ sessions) = at (eqb k.number s) refl (closed_session s s
     at false is rest = rw is (rw is rest)
 
 -- a step, as it is seen among those that were asked for
-own_step : (b : Bool) (x : Step) (xs : List Step) → is_free x ≡ b → own_of (x ∷ xs) ≡ cond b (own_of xs) (bare x ∷ own_of xs)
+own_step : (b : Bool) (x : Step) (xs : List Step) → is_unasked x ≡ b → own_of (x ∷ xs) ≡ cond b (own_of xs) (bare x ∷ own_of xs)
 own_step true x xs is = rw is refl
 own_step false x xs is = rw is refl
 
-free_run_at : (b : Bool) (s : ℕ) (st : State) (x : Step) (xs : List Step) → is_free x ≡ b → own_of (x ∷ xs) ≡ [] → is_open st s ≡ false
+free_run_at : (b : Bool) (s : ℕ) (st : State) (x : Step) (xs : List Step) → is_unasked x ≡ b → own_of (x ∷ xs) ≡ [] → is_open st s ≡ false
     → (own_of xs ≡ [] → is_open (next st x) s ≡ false → is_open (state_after (next st x) xs) s ≡ false)
     → is_open (state_after st (x ∷ xs)) s ≡ false
 free_run_at true s st x xs is own closed rest = rest (sym (own_step true x xs is) ∙ own) (ap (list_any (λ k. k.number == s)) (free_sessions st x is) ∙ closed)
@@ -66,7 +66,7 @@ free_run_at false s st x xs is own closed rest = cc (own_step false x xs is, own
 -- where nothing was asked for, a closed session stays closed
 pub free_run : (s : ℕ) (st : State) (xs : List Step) → own_of xs ≡ [] → is_open st s ≡ false → is_open (state_after st xs) s ≡ false
 free_run s st [] own closed = closed
-free_run s st (x ∷ xs) own closed = free_run_at (is_free x) s st x xs refl own closed (λ o c. free_run s (next st x) xs o c)
+free_run s st (x ∷ xs) own closed = free_run_at (is_unasked x) s st x xs refl own closed (λ o c. free_run s (next st x) xs o c)
 
 -- a closing closes
 pub shut_step : (st : State) (s : ℕ) → is_open (next st (step.Shut s)) s ≡ false
@@ -92,7 +92,7 @@ too_long_first st s id (step.Vote x space) h = cc (h)
 too_long_first st s id (step.Decide x commits) h = cc (h)
 too_long_first st s id (step.HandOut t n) h = cc (h)
 
-too_long_at : (b : Bool) (s : ℕ) (id : Option ℕ) (st : State) (x : Step) (xs : List Step) → is_free x ≡ b → own_of (x ∷ xs) ≡ step.Fault s id TooLong ∷ []
+too_long_at : (b : Bool) (s : ℕ) (id : Option ℕ) (st : State) (x : Step) (xs : List Step) → is_unasked x ≡ b → own_of (x ∷ xs) ≡ step.Fault s id TooLong ∷ []
     → (own_of xs ≡ step.Fault s id TooLong ∷ [] → is_open (state_after (next st x) xs) s ≡ false)
     → is_open (state_after st (x ∷ xs)) s ≡ false
 too_long_at true s id st x xs is own rest = rest (sym (own_step true x xs is) ∙ own)
@@ -105,4 +105,4 @@ too_long_at false s id st x xs is own rest =
 -- After a run in which that alone was asked for, the session is closed.
 pub too_long_run : (s : ℕ) (id : Option ℕ) (st : State) (xs : List Step) → own_of xs ≡ step.Fault s id TooLong ∷ [] → is_open (state_after st xs) s ≡ false
 too_long_run s id st [] own = cc (own)
-too_long_run s id st (x ∷ xs) own = too_long_at (is_free x) s id st x xs refl own (λ o. too_long_run s id (next st x) xs o)
+too_long_run s id st (x ∷ xs) own = too_long_at (is_unasked x) s id st x xs refl own (λ o. too_long_run s id (next st x) xs o)

@@ -50,20 +50,26 @@ module _ {A : Type 0} (test : Item → Bool) (item : A → Item) (kept : A → B
   fewer [] none = refl
   fewer (x ∷ xs) none = fewer_at (test (item x)) (kept x) x xs refl refl none (fewer xs)
 
-abbrev row_items : State → List Item
-row_items st = map (λ (r : Row). record { end = r.end; rank = rank.Entry; number = r.number }) st.rows
+abbrev pub row_item : Row → Item
+row_item r = record { end = r.end; rank = rank.Entry; number = r.number }
 
-abbrev registration_item : Registration → Item
+abbrev pub registration_item : Registration → Item
 registration_item r = record { end = r.end; rank = rank.Registration; number = r.number }
 
-abbrev transaction_items : State → List Item
-transaction_items st = map (λ (t : Transaction). record { end = t.end; rank = rank.Transaction; number = t.number }) (filter (λ t. not (is_voting st t.number)) st.transactions)
+abbrev pub transaction_item : Transaction → Item
+transaction_item t = record { end = t.end; rank = rank.Transaction; number = t.number }
 
-abbrev blocked_item : Blocked → Item
+abbrev pub blocked_item : Blocked → Item
 blocked_item b = record { end = b.end; rank = rank.Blocked; number = b.number }
 
-abbrev set_item : MatchSet → Item
+abbrev pub set_item : MatchSet → Item
 set_item m = record { end = m.end; rank = rank.MatchSet; number = m.number }
+
+abbrev row_items : State → List Item
+row_items st = map row_item st.rows
+
+abbrev transaction_items : State → List Item
+transaction_items st = map transaction_item (filter (λ t. not (is_voting st t.number)) st.transactions)
 
 abbrev is_over : State → Item → Bool
 is_over st i = nat_le i.end st.time

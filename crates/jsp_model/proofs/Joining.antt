@@ -10,12 +10,12 @@ use Rattle.jsp_model.specs.declared.step.Step.{Step}
 use Rattle.jsp_model.specs.Answers.{Saying, said}
 use Rattle.jsp_model.specs.Steps.{is_legal, next}
 use Rattle.jsp_model.specs.Runs.{state_after, said_in, said_to, is_run, IsRun}
-use Rattle.jsp_model.specs.House.{is_free, bare, own_of, Makes}
+use Rattle.jsp_model.specs.House.{is_unasked, bare, own_of, Makes}
 
 pub own_of-append : (xs ys : List Step) → own_of (xs ++ ys) ≡ own_of xs ++ own_of ys
 own_of-append xs ys =
-    ap (map bare) (filter-append (λ x. not (is_free x)) xs ys)
-    ∙ map-append bare (filter (λ x. not (is_free x)) xs) (filter (λ x. not (is_free x)) ys)
+    ap (map bare) (filter-append (λ x. not (is_unasked x)) xs ys)
+    ∙ map-append bare (filter (λ x. not (is_unasked x)) xs) (filter (λ x. not (is_unasked x)) ys)
 
 pub IsRun-append : (st : State) (xs ys : List Step) → IsRun st xs → IsRun (state_after st xs) ys → IsRun st (xs ++ ys)
 IsRun-append st [] ys first second = second

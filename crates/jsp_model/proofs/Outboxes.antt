@@ -12,9 +12,10 @@ use Rattle.jsp_model.specs.declared.step.Step.{Step}
 use Rattle.jsp_model.specs.declared.step.Step.TheVariants as step
 use Rattle.jsp_model.specs.Lookup.{update}
 use Rattle.jsp_model.specs.Answers.{Saying, said}
-use Rattle.jsp_model.specs.Steps.{next, post, hand_out, outbox_of, handed}
+use Rattle.jsp_model.specs.Steps.{next, after_hand_out}
+use Rattle.jsp_model.specs.Outboxes.{post, hand_out, outbox_of}
 use Rattle.jsp_model.specs.Runs.{state_after, said_to}
-use Rattle.jsp_model.specs.Image.{are_outboxes}
+use Rattle.jsp_model.specs.Limits.{are_outboxes}
 use Rattle.jsp_model.proofs.Joining.{to_session, to_session-append, said_to-step}
 
 -- what lies in the session's box
@@ -194,7 +195,7 @@ abbrev pub is_hand_out : Step → Bool
 is_hand_out (step.HandOut s n) = true
 is_hand_out _ = false
 
-handed_other : (x : Step) (boxes : List Outbox) → is_hand_out x ≡ false → handed x boxes ≡ boxes
+pub handed_other : (x : Step) (boxes : List Outbox) → is_hand_out x ≡ false → after_hand_out x boxes ≡ boxes
 handed_other (step.Open s) boxes h = refl
 handed_other (step.Shut s) boxes h = refl
 handed_other (step.Clock t) boxes h = refl

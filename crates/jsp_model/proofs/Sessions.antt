@@ -22,10 +22,11 @@ use Rattle.jsp_lease.specs.declared.item.Rank.{Rank}
 use Rattle.jsp_lease.specs.declared.item.Rank.TheVariants as rank
 use Rattle.jsp_model.specs.Lookup.{empty, named, update, is_open, blocked_of, joined_at, rank_of}
 use Rattle.jsp_lease.specs.Granted.{ms_of}
-use Rattle.jsp_model.specs.Refusals.{refusal, WriteRequest, RowRequest, one_row, many_rows, one_entry, all_entries, would_block, as_blocked, caller_of, place_of, renew_tests, number_tests}
-use Rattle.jsp_types.specs.Classes.{first_that}
+use Rattle.jsp_model.specs.Refusals.{refusal, renew_tests, lease_tests}
+use Rattle.jsp_model.specs.Requests.{WriteRequest, RowRequest, one_row, many_rows, one_entry, all_entries, would_block, as_blocked, caller_of, place_of}
+use Rattle.jsp_types.specs.Tests.{first_that}
 use Rattle.jsp_model.specs.Changes.{close, newly_joined, join, owe, add_row, new_row, write, block, give, give_or_block, remove, extend, renew, renew_one, cancel, cancel_one, forget, commit, committed, published, cast, abort, accepted}
-use Rattle.jsp_model.specs.Steps.{is_legal, next, asked, granted_rows, is_too_long}
+use Rattle.jsp_model.specs.Steps.{is_legal, next, after_ask, after_grant, is_too_long}
 use Rattle.jsp_model.specs.Runs.{state_after, is_run, IsRun}
 
 -- sessions are as they were
@@ -98,7 +99,7 @@ renew_one_keeps : (st : State) (l : ℤ × ℤ) → Keeps st (renew_one st l)
 renew_one_keeps st l = either st (is_some (first_that (renew_tests st l.0 l.1))) st (renew st l.0 l.1) (same st) (renew_keeps st l.0 l.1)
 
 cancel_one_keeps : (st : State) (lease : ℤ) → Keeps st (cancel_one st lease)
-cancel_one_keeps st lease = either st (is_some (first_that (number_tests st lease))) st (cancel st lease) (same st) (cancel_keeps st lease)
+cancel_one_keeps st lease = either st (is_some (first_that (lease_tests st lease))) st (cancel st lease) (same st) (cancel_keeps st lease)
 
 commit_keeps : (st : State) (x : ℕ) → Keeps st (commit st x)
 commit_keeps st x =
@@ -168,7 +169,7 @@ accepted_opens_none st s id ns (ask.Contents q) =
 accepted_opens_none st s id ns (ask.Next set most) = kept st _ (record { sessions = refl; last = refl })
 accepted_opens_none st s id ns (ask.CloseSet set) = kept st _ (record { sessions = refl; last = refl })
 
-asked_opens_none : (st : State) (s id : ℕ) (ns : List ℕ) (a : Ask) (r : Option Refusal) → OpensNone st (asked st s id ns a r)
+asked_opens_none : (st : State) (s id : ℕ) (ns : List ℕ) (a : Ask) (r : Option Refusal) → OpensNone st (after_ask st s id ns a r)
 asked_opens_none st s id ns a None = accepted_opens_none st s id ns a
 asked_opens_none st s id ns a (Some r) = kept st st (same st)
 
@@ -176,7 +177,7 @@ fault_opens_none : (st : State) (s : ℕ) (b : Bool) → OpensNone st (if b then
 fault_opens_none st s true = closes st s
 fault_opens_none st s false = kept st st (same st)
 
-granted_keep : (st : State) (n : ℕ) (ns : List ℕ) (b : Option Blocked) → Keeps st (granted_rows st n ns b)
+granted_keep : (st : State) (n : ℕ) (ns : List ℕ) (b : Option Blocked) → Keeps st (after_grant st n ns b)
 granted_keep st n ns None = same st
 granted_keep st n ns (Some b) = record { sessions = refl; last = refl }
 
@@ -193,9 +194,9 @@ unfolding next
 other_step st (step.Open s) h = cc (h)
 other_step st (step.Shut s) h = plain st (close st s) (step.Shut s) (closes st s) refl refl
 other_step st (step.Clock t) h = plain st st (step.Clock t) (kept st st (same st)) refl refl
-other_step st (step.Ask s a ns) h = plain st (asked st s a.id ns a.ask (refusal st s a.id a.ask)) (step.Ask s a ns) (asked_opens_none st s a.id ns a.ask (refusal st s a.id a.ask)) refl refl
+other_step st (step.Ask s a ns) h = plain st (after_ask st s a.id ns a.ask (refusal st s a.id a.ask)) (step.Ask s a ns) (asked_opens_none st s a.id ns a.ask (refusal st s a.id a.ask)) refl refl
 other_step st (step.Fault s id r) h = plain st (if is_too_long r then close st s else st) (step.Fault s id r) (fault_opens_none st s (is_too_long r)) refl refl
-other_step st (step.Grant n ns) h = plain st (granted_rows st n ns (blocked_of st n)) (step.Grant n ns) (kept st _ (granted_keep st n ns (blocked_of st n))) refl refl
+other_step st (step.Grant n ns) h = plain st (after_grant st n ns (blocked_of st n)) (step.Grant n ns) (kept st _ (granted_keep st n ns (blocked_of st n))) refl refl
 other_step st (step.Empty n) h = plain st st (step.Empty n) (kept st st (same st)) refl refl
 other_step st (step.Tell n) h = plain st st (step.Tell n) (kept st st (same st)) refl refl
 other_step st (step.Due item) h = plain st (remove st item.rank item.number) (step.Due item) (kept st _ (remove_keeps st item.rank item.number)) refl refl

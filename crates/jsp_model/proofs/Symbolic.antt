@@ -11,7 +11,8 @@ use Rattle.jsp_lease.specs.Granted.{ms_of}
 use Rattle.jsp_model.specs.Refusals.{refusal}
 use Rattle.jsp_model.specs.Changes.{begin}
 use Rattle.jsp_model.specs.Answers.{said}
-use Rattle.jsp_model.specs.Steps.{next, post}
+use Rattle.jsp_model.specs.Steps.{next}
+use Rattle.jsp_model.specs.Outboxes.{post}
 
 -- a refused request changes the outbox alone
 pub refused_ask : (st : State) (s : ℕ) (a : Request) (r : Refusal) → refusal st s a.id a.ask ≡ Some r → is_open st s ≡ true

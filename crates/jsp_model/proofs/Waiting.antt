@@ -22,13 +22,14 @@ use Rattle.jsp_lease.specs.declared.item.Rank.{Rank}
 use Rattle.jsp_lease.specs.declared.item.Rank.TheVariants as rank
 use Rattle.jsp_model.specs.Lookup.{empty, named, update, blocked_of, joined_at, rank_of}
 use Rattle.jsp_model.specs.Quiet.{is_quiet, are_quiet, must_wait}
-use Rattle.jsp_types.specs.Classes.{first_that}
+use Rattle.jsp_types.specs.Tests.{first_that}
 use Rattle.jsp_lease.specs.Granted.{ms_of}
-use Rattle.jsp_model.specs.Refusals.{refusal, one_row, one_entry, would_block, as_blocked, caller_of, place_of, number_tests, renew_tests}
+use Rattle.jsp_model.specs.Refusals.{refusal, lease_tests, renew_tests}
+use Rattle.jsp_model.specs.Requests.{one_row, one_entry, would_block, as_blocked, caller_of, place_of}
 use Rattle.jsp_model.specs.Changes.{extend, renew, cancel, renew_one, cancel_one, close, newly_joined, join, owe, new_row, give, give_or_block, remove, commit, abort, forget, committed, published, cast, accepted}
-use Rattle.jsp_model.specs.Steps.{next, asked, granted_rows, is_too_long}
+use Rattle.jsp_model.specs.Steps.{next, after_ask, after_grant, is_too_long}
 use Rattle.jsp_model.specs.Runs.{state_after}
-use Rattle.jsp_model.specs.House.{is_free, bare, own_of}
+use Rattle.jsp_model.specs.House.{is_unasked, bare, own_of}
 
 pub record NothingWaits (st : State) : Type 0 where
   pub blocked : st.blocked ≡ []
@@ -77,7 +78,7 @@ remove_keeps st rank.Transaction n h = abort_keeps st n h
 remove_keeps st rank.Blocked n h = record { blocked = rw h.blocked refl; registrations = h.registrations }
 remove_keeps st rank.MatchSet n h = record { blocked = h.blocked; registrations = h.registrations }
 
-granted_keep : (st : State) (n : ℕ) (ns : List ℕ) (b : Option Blocked) → NothingWaits st → NothingWaits (granted_rows st n ns b)
+granted_keep : (st : State) (n : ℕ) (ns : List ℕ) (b : Option Blocked) → NothingWaits st → NothingWaits (after_grant st n ns b)
 granted_keep st n ns None h = h
 granted_keep st n ns (Some b) h = record { blocked = rw h.blocked refl; registrations = h.registrations }
 
@@ -137,12 +138,12 @@ accepted_keeps st s id ns (ask.Take q) h built = rows_keep st s id form.Take q n
 accepted_keeps st s id ns (ask.Renew lease ms) h built = renew_keeps st lease ms h
 accepted_keeps st s id ns (ask.Cancel lease) h built = cancel_keeps st lease h
 accepted_keeps st s id ns (ask.RenewAll leases) h built = all_keep renew_one (λ st l h. either (is_some (first_that (renew_tests st l.0 l.1))) st (renew st l.0 l.1) (λ e. h) (λ e. renew_keeps st l.0 l.1 h)) st leases h
-accepted_keeps st s id ns (ask.CancelAll leases) h built = all_keep cancel_one (λ st lease h. either (is_some (first_that (number_tests st lease))) st (cancel st lease) (λ e. h) (λ e. cancel_keeps st lease h)) st leases h
+accepted_keeps st s id ns (ask.CancelAll leases) h built = all_keep cancel_one (λ st lease h. either (is_some (first_that (lease_tests st lease))) st (cancel st lease) (λ e. h) (λ e. cancel_keeps st lease h)) st leases h
 accepted_keeps st s id ns ask.Spaces h built = h
 accepted_keeps st s id ns ask.Bye h built = close_keeps st s h
 accepted_keeps st s id ns _ h built = cc (built)
 
-asked_keeps : (st : State) (s id : ℕ) (ns : List ℕ) (a : Ask) (r : Option Refusal) → NothingWaits st → is_built a ≡ true → NothingWaits (asked st s id ns a r)
+asked_keeps : (st : State) (s id : ℕ) (ns : List ℕ) (a : Ask) (r : Option Refusal) → NothingWaits st → is_built a ≡ true → NothingWaits (after_ask st s id ns a r)
 asked_keeps st s id ns a None h built = accepted_keeps st s id ns a h built
 asked_keeps st s id ns a (Some r) h built = h
 
@@ -151,7 +152,7 @@ abbrev pub asks_built : Step → Bool
 asks_built (step.Ask s a ns) = is_built a.ask
 asks_built _ = true
 
-step_keeps : (st : State) (x : Step) → NothingWaits st → asks_built x ≡ true → NothingWaits (next st x)
+pub step_keeps : (st : State) (x : Step) → NothingWaits st → asks_built x ≡ true → NothingWaits (next st x)
 unfolding next
 step_keeps st (step.Open s) h built = record { blocked = h.blocked; registrations = h.registrations }
 step_keeps st (step.Shut s) h built = record { blocked = (close_keeps st s h).blocked; registrations = (close_keeps st s h).registrations }
@@ -192,7 +193,7 @@ bare_built (step.Vote x space) = refl
 bare_built (step.Decide x commits) = refl
 bare_built (step.HandOut s n) = refl
 
-free_built : (x : Step) → is_free x ≡ true → asks_built x ≡ true
+free_built : (x : Step) → is_unasked x ≡ true → asks_built x ≡ true
 free_built (step.Ask s a ns) h = cc (h)
 free_built (step.Open s) h = refl
 free_built (step.Shut s) h = refl
@@ -214,7 +215,7 @@ record Built (x : Step) (xs : List Step) : Type 0 where
   first : asks_built x ≡ true
   rest : all_built (own_of xs) ≡ true
 
-built_at : (b : Bool) (x : Step) (xs : List Step) → is_free x ≡ b → all_built (own_of (x ∷ xs)) ≡ true → Built x xs
+built_at : (b : Bool) (x : Step) (xs : List Step) → is_unasked x ≡ b → all_built (own_of (x ∷ xs)) ≡ true → Built x xs
 built_at true x xs is h = record { first = free_built x is; rest = rw is at h }
 built_at false x xs is h =
     let own : all_built (bare x ∷ own_of xs) ≡ true = rw is at h in
@@ -224,7 +225,7 @@ built_at false x xs is h =
 pub run_keeps : (st : State) (xs : List Step) → NothingWaits st → all_built (own_of xs) ≡ true → NothingWaits (state_after st xs)
 run_keeps st [] h built = h
 run_keeps st (x ∷ xs) h built =
-    let parts = built_at (is_free x) x xs refl built in
+    let parts = built_at (is_unasked x) x xs refl built in
     run_keeps (next st x) xs (step_keeps st x h parts.first) parts.rest
 
 one_quiet : (st : State) (p : ℕ) → NothingWaits st → is_quiet st p ≡ true

@@ -1,7 +1,7 @@
 -- What is said in a step, to which session.
 use Rattle.std.specs.Prelude.{ℕ, ℤ, ◌+◌, Bool, true, false, if◌then◌else◌, ◌&&◌, ◌==◌, List, [], ◌∷◌, ◌++◌, map, length, filter, Option, Some, None, is_some}
 use Rattle.std.specs.List.{list_any, scan, range_with_len}
-use Rattle.jsp_types.specs.Classes.{first_that}
+use Rattle.jsp_types.specs.Tests.{first_that}
 use Rattle.jsp_types.specs.declared.entry.Entry.{Entry}
 use Rattle.jsp_wire.specs.declared.ask.Ask.{Ask}
 use Rattle.jsp_wire.specs.declared.ask.Ask.TheVariants as ask
@@ -24,7 +24,8 @@ use Rattle.jsp_lease.specs.declared.item.Rank.{Rank}
 use Rattle.jsp_lease.specs.declared.item.Rank.TheVariants as rank
 use Rattle.jsp_model.specs.Lookup.{named, is_open, is_caller, is_voting, blocked_of, registration_of, rows_of}
 use Rattle.jsp_lease.specs.Granted.{ms_of}
-use Rattle.jsp_model.specs.Refusals.{refusal, RowRequest, one_row, many_rows, place_of, as_blocked, would_block, number_tests, renew_tests}
+use Rattle.jsp_model.specs.Refusals.{refusal, lease_tests, renew_tests}
+use Rattle.jsp_model.specs.Requests.{RowRequest, one_row, many_rows, place_of, as_blocked, would_block}
 use Rattle.jsp_model.specs.Changes.{renew_one, cancel_one, page_of, is_last_page}
 
 -- what is said, and to whom
@@ -59,7 +60,7 @@ abbrev pub renew_answer : State → ℤ × ℤ → LeaseAnswer
 renew_answer st l = record { lease = l.0; outcome = outcome_of (first_that (renew_tests st l.0 l.1)) (outcome.Renewed (ms_of l.1)) }
 
 abbrev pub cancel_answer : State → ℤ → LeaseAnswer
-cancel_answer st lease = record { lease = lease; outcome = outcome_of (first_that (number_tests st lease)) outcome.Cancelled }
+cancel_answer st lease = record { lease = lease; outcome = outcome_of (first_that (lease_tests st lease)) outcome.Cancelled }
 
 -- ---- the answer to a request that isn't refused, where it has one at once
 
@@ -103,12 +104,12 @@ refuse_under st xs = refuse LeftActive (λ b. list_any (is_caller b.transaction)
 abbrev pub answer_commit : State → ℕ → (ℕ → Reply) → List Saying
 answer_commit st x answer = map (λ c. (c.session, answer c.id)) (filter (λ c. c.transaction == x) st.commits)
 
-abbrev pub is_aborted : ℕ → Reply
-is_aborted id = says.Refused (Some id) Aborted
+abbrev pub aborted_reply : ℕ → Reply
+aborted_reply id = says.Refused (Some id) Aborted
 
 abbrev pub told_others : State → Ask → List Saying
 told_others st (ask.Commit x) = refuse_under st (named x ∷ [])
-told_others st (ask.Abort x) = answer_commit st (named x) is_aborted ++ refuse_under st (named x ∷ [])
+told_others st (ask.Abort x) = answer_commit st (named x) aborted_reply ++ refuse_under st (named x ∷ [])
 told_others st (ask.Cancel lease) = refuse_under st (named lease ∷ [])
 told_others st (ask.CancelAll leases) = refuse_under st (map named leases)
 told_others st (ask.Reset space) = refuse CrashCount (λ b. b.space == place_of st space && is_some b.transaction) st
@@ -141,7 +142,7 @@ all_said st (step.Grant n ns) = said_to_blocked (blocked_of st n) (entries_of st
 all_said st (step.Empty n) = said_to_blocked (blocked_of st n) []
 all_said st (step.Tell n) = event_of (registration_of st n)
 all_said st (step.Due item) = said_when_due st item.rank item.number
-all_said st (step.Decide x commits) = answer_commit st x (λ id. if commits then says.Done id else is_aborted id)
+all_said st (step.Decide x commits) = answer_commit st x (λ id. if commits then says.Done id else aborted_reply id)
 all_said st _ = []
 
 -- nothing is said to a closed session

@@ -2,7 +2,8 @@
 use Rattle.std.specs.Prelude.{ℕ, ℤ, ◌+◌, Bool, true, false, not, if◌then◌else◌, ◌&&◌, ◌||◌, ◌==◌, nat_lt, nat_le, List, [], ◌∷◌, ◌++◌, map, length, drop, take, filter, flat_map, fold, Option, Some, None, is_some, unwrap_or}
 use Rattle.std.specs.List.{list_any, last_or}
 use Rattle.std.specs.Option.{option_map_or}
-use Rattle.jsp_types.specs.Classes.{first_that, declared}
+use Rattle.jsp_types.specs.Classes.{declared}
+use Rattle.jsp_types.specs.Tests.{first_that}
 use Rattle.jsp_types.specs.Matching.{matches, entry_of, template_of}
 use Rattle.jsp_types.specs.declared.entry.Raw.{Raw}
 use Rattle.jsp_wire.specs.declared.ask.Ask.{Ask}
@@ -28,7 +29,8 @@ use Rattle.jsp_model.specs.declared.state.Form.TheVariants as form
 use Rattle.jsp_model.specs.Lookup.{update, rank_of, named, contains, crash_count, is_caller, joined_at, set_of}
 use Rattle.jsp_model.specs.Sight.{is_take, readable}
 use Rattle.jsp_lease.specs.Granted.{ms_of}
-use Rattle.jsp_model.specs.Refusals.{WriteRequest, RowRequest, one_entry, all_entries, one_row, many_rows, caller_of, place_of, as_blocked, would_block, class_asked, number_tests, renew_tests}
+use Rattle.jsp_model.specs.Refusals.{lease_tests, renew_tests}
+use Rattle.jsp_model.specs.Requests.{WriteRequest, RowRequest, one_entry, all_entries, one_row, many_rows, caller_of, place_of, as_blocked, would_block, class_asked}
 
 -- ---- sessions
 
@@ -303,7 +305,7 @@ abbrev pub renew_one : State → ℤ × ℤ → State
 renew_one st l = if is_some (first_that (renew_tests st l.0 l.1)) then st else renew st l.0 l.1
 
 abbrev pub cancel_one : State → ℤ → State
-cancel_one st lease = if is_some (first_that (number_tests st lease)) then st else cancel st lease
+cancel_one st lease = if is_some (first_that (lease_tests st lease)) then st else cancel st lease
 
 -- ---- reset
 

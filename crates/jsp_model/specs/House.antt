@@ -18,12 +18,12 @@ use Rattle.jsp_model.specs.Runs.{IsRun, state_after}
 -- ---- steps that are asked for
 
 -- a step that a house makes by itself
-abbrev pub is_free : Step → Bool
-is_free (step.Grant blocked rows) = true
-is_free (step.Empty blocked) = true
-is_free (step.Tell registration) = true
-is_free (step.Due item) = true
-is_free _ = false
+abbrev pub is_unasked : Step → Bool
+is_unasked (step.Grant blocked rows) = true
+is_unasked (step.Empty blocked) = true
+is_unasked (step.Tell registration) = true
+is_unasked (step.Due item) = true
+is_unasked _ = false
 
 -- the step without what was chosen in it
 abbrev pub bare : Step → Step
@@ -32,7 +32,7 @@ bare step = step
 
 -- the steps that were asked for
 abbrev pub own_of : List Step → List Step
-own_of steps = map bare (filter (λ x. not (is_free x)) steps)
+own_of steps = map bare (filter (λ x. not (is_unasked x)) steps)
 
 -- the spaces that some step of a run touches
 abbrev pub touched : State → List Step → List ℕ

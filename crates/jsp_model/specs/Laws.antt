@@ -12,7 +12,8 @@ use Rattle.jsp_model.specs.declared.step.Step.{Step}
 use Rattle.jsp_model.specs.declared.step.Step.TheVariants as step
 use Rattle.jsp_model.specs.Lookup.{named, contains, is_caller, is_living, joined_of, joined_at, crash_count, blocked_of, registration_of, set_of}
 use Rattle.jsp_model.specs.Sight.{is_take, readable}
-use Rattle.jsp_model.specs.Refusals.{refusal, rows_asked, as_blocked, place_of, is_prepared}
+use Rattle.jsp_model.specs.Refusals.{refusal, is_prepared}
+use Rattle.jsp_model.specs.Requests.{rows_asked, as_blocked, place_of}
 use Rattle.jsp_model.specs.Changes.{vote_of, page_of, is_last_page}
 use Rattle.jsp_model.specs.Steps.{next, is_vote_to_commit}
 use Rattle.jsp_model.specs.Runs.{Moment, moments, states}
@@ -115,12 +116,13 @@ resets space m = at m.state m.step
     at st (step.Ask s asked ns) = is_none (refusal st s asked.id asked.ask) && of st asked.ask
     at st _ = false
 
--- a row, a registration or a blocked request bears the transaction
+-- a row, a registration, a blocked request or a match set bears the transaction
 abbrev pub bears : State → ℕ → Bool
 bears st x =
     list_any (λ r. is_caller r.writer x || is_caller r.taker x || contains r.readers x) st.rows
     || list_any (λ r. is_caller r.transaction x) st.registrations
     || list_any (λ b. is_caller b.transaction x) st.blocked
+    || list_any (λ m. is_caller m.transaction x) st.sets
 
 -- ---- the laws
 

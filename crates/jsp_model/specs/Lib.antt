@@ -3,12 +3,14 @@ pub mod Sight
 pub mod Quiet
 pub mod Due
 pub mod Touches
+pub mod Requests
 pub mod Refusals
 pub mod Changes
 pub mod Answers
+pub mod Outboxes
 pub mod Steps
 pub mod Runs
 pub mod Config
 pub mod House
-pub mod Image
+pub mod Limits
 pub mod Laws

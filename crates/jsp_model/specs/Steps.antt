@@ -1,49 +1,29 @@
 -- Which steps are legal, and the state after one.
-use Rattle.std.specs.Prelude.{ℕ, ◌^◌, Bool, true, false, not, if◌then◌else◌, ◌&&◌, ◌==◌, nat_lt, nat_le, min, max, List, [], ◌∷◌, ◌++◌, length, filter, fold, find, drop, Option, Some, None, is_some, is_none}
+use Rattle.std.specs.Prelude.{ℕ, ◌^◌, Bool, true, false, not, if◌then◌else◌, ◌&&◌, ◌==◌, nat_lt, nat_le, min, max, List, [], ◌∷◌, length, fold, Option, Some, None, is_some, is_none}
 use Rattle.std.specs.List.{list_any, list_all}
 use Rattle.std.specs.Option.{option_map_or}
 use Rattle.jsp_wire.specs.declared.ask.Ask.{Ask}
 use Rattle.jsp_reply.specs.declared.refusal.Refusal.{Refusal}
 use Rattle.jsp_reply.specs.declared.refusal.Refusal.TheVariants.{BadJson, BadRequest, TooLong}
-use Rattle.jsp_reply.specs.declared.reply.Reply.{Reply}
 use Rattle.jsp_model.specs.declared.state.State.{State}
 use Rattle.jsp_model.specs.declared.state.Outbox.{Outbox}
 use Rattle.jsp_model.specs.declared.state.Blocked.{Blocked}
 use Rattle.jsp_model.specs.declared.state.Joined.{Joined}
+use Rattle.jsp_model.specs.declared.state.Vote.{Vote}
 use Rattle.jsp_model.specs.declared.state.Vote.TheVariants as vote
 use Rattle.jsp_model.specs.declared.step.Step.{Step}
 use Rattle.jsp_model.specs.declared.step.Step.TheVariants as step
-use Rattle.jsp_model.specs.Lookup.{update, contains, is_open, blocked_of, registration_of, is_voting, joined_of, joined_at}
+use Rattle.jsp_model.specs.Lookup.{contains, is_open, blocked_of, registration_of, is_voting, joined_of, joined_at}
 use Rattle.jsp_model.specs.Sight.{is_if, available, has_conflict}
 use Rattle.jsp_model.specs.Quiet.{are_quiet}
 use Rattle.jsp_lease.specs.Due.{is_item}
 use Rattle.jsp_model.specs.Due.{due}
 use Rattle.jsp_model.specs.Touches.{touches}
-use Rattle.jsp_model.specs.Refusals.{refusal, RowRequest, rows_asked, as_blocked}
+use Rattle.jsp_model.specs.Refusals.{refusal}
+use Rattle.jsp_model.specs.Requests.{RowRequest, rows_asked, as_blocked}
 use Rattle.jsp_model.specs.Changes.{open_session, close, give, unblock, tell, remove, cast_vote, commit, abort, accepted}
-use Rattle.jsp_model.specs.Answers.{Saying, said}
-
--- ---- outboxes
-
--- what is said to a session goes to the end of its outbox
-abbrev pub post : List Outbox → Saying → List Outbox
-post [] a = record { session = a.0; answers = a.1 ∷ [] } ∷ []
-post (b ∷ boxes) a =
-    if b.session == a.0 then record b { answers = b.answers ++ a.1 ∷ [] } ∷ boxes
-    else if nat_lt a.0 b.session then record { session = a.0; answers = a.1 ∷ [] } ∷ b ∷ boxes
-    else b ∷ post boxes a
-
--- the first n answers go; no box stays empty
-abbrev pub hand_out : ℕ → ℕ → List Outbox → List Outbox
-hand_out s n boxes =
-    filter (λ b. nat_lt 0 (length b.answers)) (update (λ b. b.session == s) (λ (b : Outbox). record b { answers = drop n b.answers }) boxes)
-
-abbrev pub outbox_of : State → ℕ → List Reply
-outbox_of st s = option_map_or (λ b. b.answers) (find (λ b. b.session == s) st.outboxes) []
-
-abbrev pub handed : Step → List Outbox → List Outbox
-handed (step.HandOut s n) boxes = hand_out s n boxes
-handed _ boxes = boxes
+use Rattle.jsp_model.specs.Answers.{said}
+use Rattle.jsp_model.specs.Outboxes.{post, hand_out, outbox_of}
 
 -- ---- choices
 
@@ -63,8 +43,12 @@ has_its_rows st s id ns _ _ = length ns == 0
 
 -- ---- votes
 
+abbrev pub is_aborted : Option Vote → Bool
+is_aborted (Some vote.Aborted) = true
+is_aborted _ = false
+
 abbrev pub is_vote_to_abort : Joined → Bool
-is_vote_to_abort j = elim j.vote [ None ↦ false | Some v ↦ (elim v [ vote.Aborted ↦ true | vote.Prepared ↦ false | vote.NotChanged ↦ false ]) ]
+is_vote_to_abort j = is_aborted j.vote
 
 abbrev pub is_vote_to_commit : Joined → Bool
 is_vote_to_commit j = is_some j.vote && not (is_vote_to_abort j)
@@ -100,26 +84,30 @@ is_legal st (step.HandOut s n) = nat_le 1 n && nat_le n (length (outbox_of st s)
 -- ---- the state after a step
 
 -- a refused request changes nothing else
-abbrev pub asked : State → ℕ → ℕ → List ℕ → Ask → Option Refusal → State
-asked st s id ns a None = accepted st s id ns a
-asked st s id ns a (Some r) = st
+abbrev pub after_ask : State → ℕ → ℕ → List ℕ → Ask → Option Refusal → State
+after_ask st s id ns a None = accepted st s id ns a
+after_ask st s id ns a (Some r) = st
 
 abbrev pub is_too_long : Refusal → Bool
 is_too_long TooLong = true
 is_too_long _ = false
 
-abbrev pub granted_rows : State → ℕ → List ℕ → Option Blocked → State
-granted_rows st n ns None = st
-granted_rows st n ns (Some b) = unblock (give st b ns) n
+abbrev pub after_grant : State → ℕ → List ℕ → Option Blocked → State
+after_grant st n ns None = st
+after_grant st n ns (Some b) = unblock (give st b ns) n
+
+abbrev pub after_hand_out : Step → List Outbox → List Outbox
+after_hand_out (step.HandOut s n) boxes = hand_out s n boxes
+after_hand_out _ boxes = boxes
 
 -- all but the outboxes
 abbrev pub change : State → Step → State
 change st (step.Open s) = open_session st s
 change st (step.Shut s) = close st s
 change st (step.Clock t) = record st { time = max st.time (min t (2 ^ 62)) }
-change st (step.Ask s a ns) = asked st s a.id ns a.ask (refusal st s a.id a.ask)
+change st (step.Ask s a ns) = after_ask st s a.id ns a.ask (refusal st s a.id a.ask)
 change st (step.Fault s id r) = if is_too_long r then close st s else st
-change st (step.Grant n ns) = granted_rows st n ns (blocked_of st n)
+change st (step.Grant n ns) = after_grant st n ns (blocked_of st n)
 change st (step.Empty n) = unblock st n
 change st (step.Tell n) = tell st n
 change st (step.Due item) = remove st item.rank item.number
@@ -128,4 +116,4 @@ change st (step.Decide x commits) = if commits then commit st x else abort st x
 change st (step.HandOut s n) = st
 
 unfoldable pub next : State → Step → State
-next st step = record (change st step) { outboxes = handed step (fold post st.outboxes (said st step)) }
+next st step = record (change st step) { outboxes = after_hand_out step (fold post st.outboxes (said st step)) }

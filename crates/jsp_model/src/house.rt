@@ -2,7 +2,7 @@
 ghost use Rattle.std.specs.Prelude.{◌≡◌, ◌<◌, IsTrue, false, List, ℕ, length, take, IfOk, IfErr, OnErr, vec_len, vec_capacity, option_map};
 ghost use Rattle.jsp_model.specs.declared.state.State.{State};
 ghost use Rattle.jsp_model.specs.Lookup.{is_open};
-ghost use Rattle.jsp_model.specs.Steps.{outbox_of};
+ghost use Rattle.jsp_model.specs.Outboxes.{outbox_of};
 ghost use Rattle.jsp_model.specs.House.{is_input, Acts, Makes, OpensNone, handed_out, shuts, first_waiting};
 ghost use Rattle.jsp_model.specs.declared.house.Why.TheVariants.{NoMemory as no_memory};
 

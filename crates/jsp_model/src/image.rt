@@ -1,6 +1,6 @@
 //! A state with the limits of the profile in its type.
 ghost use Rattle.std.specs.Prelude.{◌≡◌, IfOk};
-ghost use Rattle.jsp_model.specs.Image.{IsWithinLimits};
+ghost use Rattle.jsp_model.specs.Limits.{IsWithinLimits};
 
 use crate::{
     Blocked, Commit, MatchSet, Outbox, Registration, Row, Session, Space, State, Transaction,
@@ -12,7 +12,7 @@ use std::marker::Model;
 
 /// A state within its limits. Contracts see it as the state.
 ///
-/// The limits stand in `specs/Image.antt`. Whoever changes the state shows them again.
+/// The limits stand in `specs/Limits.antt`. Whoever changes the state shows them again.
 #[derive(Drop)]
 pub struct Image {
     pub state: State,
@@ -20,7 +20,7 @@ pub struct Image {
 
 impl Model for Image {
     ghost use Rattle.jsp_model.specs.declared.state.State.{State};
-    ghost use Rattle.jsp_model.specs.Image.{IsWithinLimits};
+    ghost use Rattle.jsp_model.specs.Limits.{IsWithinLimits};
 
     ghost Value = { State };
 

@@ -30,6 +30,7 @@ pub struct Row {
     pub number: u64,
     pub space: u64,
     pub entry: Entry,
+    /// In milliseconds of house time.
     pub end: u64,
     pub writer: Option<u64>,
     pub readers: Items<u64>,
@@ -45,18 +46,26 @@ pub struct Registration {
     pub transaction: Option<u64>,
     pub session: u64,
     pub handback: Text,
+    /// In milliseconds of house time.
     pub end: u64,
+    /// The number of the last event that was told, at first 0.
     pub sequence: u64,
+    /// The numbers of the rows that are still to be told of, in their order.
     pub owed: Items<u64>,
 }
 
 /// What a request for rows does with them, and when it blocks.
 #[derive(Clone, Copy, PartialEq, Eq)]
 pub enum Form {
+    /// Reads a row, and waits for one.
     Read,
+    /// Reads a row, and waits only while a matching one is in conflict.
     ReadIf,
+    /// Takes a row, and waits for one.
     Take,
+    /// Takes a row, and waits only while a matching one is in conflict.
     TakeIf,
+    /// Takes several rows, and waits for the first.
     TakeMany,
 }
 
@@ -71,14 +80,18 @@ pub struct Blocked {
     pub transaction: Option<u64>,
     pub form: Form,
     pub most: u64,
+    /// In milliseconds of house time; 2^62 + 1 never comes.
     pub end: u64,
 }
 
 /// What a space voted.
 #[derive(Clone, Copy, PartialEq, Eq)]
 pub enum Vote {
+    /// It can commit, and waits for the decision.
     Prepared,
+    /// The transaction changed nothing there.
     NotChanged,
+    /// It can't commit, since it was reset.
     Aborted,
 }
 
@@ -94,6 +107,7 @@ pub struct Joined {
 #[derive(Clone, Drop)]
 pub struct Transaction {
     pub number: u64,
+    /// In milliseconds of house time.
     pub end: u64,
     pub joined: Items<Joined>,
 }
@@ -114,6 +128,7 @@ pub struct MatchSet {
     pub space: u64,
     pub template: Template,
     pub transaction: Option<u64>,
+    /// In milliseconds of house time.
     pub end: u64,
     pub cursor: u64,
 }
@@ -124,13 +139,18 @@ pub struct State {
     pub classes: Classes,
     pub spaces: Items<Space>,
     pub sessions: Items<Session>,
+    /// The greatest number of a session so far.
     pub last_session: u64,
+    /// House time, in milliseconds: the greatest reading of the clock so far, at most 2^62.
     pub time: u64,
+    /// The number that is drawn next.
     pub next_number: u64,
     pub rows: Items<Row>,
     pub registrations: Items<Registration>,
+    /// In arrival order.
     pub blocked: Items<Blocked>,
     pub transactions: Items<Transaction>,
+    /// In the order in which they were asked.
     pub commits: Items<Commit>,
     pub sets: Items<MatchSet>,
     /// By session number, and none empty.

@@ -10,8 +10,7 @@ use Rattle.jsp_model.specs.Due.{due}
 use Rattle.jsp_model.specs.Quiet.{is_quiet, are_quiet}
 use Rattle.jsp_model.specs.Steps.{is_legal, next}
 use Rattle.jsp_model.specs.Runs.{IsRun, state_after}
-use Rattle.jsp_model.specs.House.{Makes, own_of, bare, is_free}
-use Rattle.jsp_model.specs.Image.{IsWithinLimits}
+use Rattle.jsp_model.specs.House.{Makes, own_of, bare, is_unasked}
 use Rattle.jsp_model.proofs.Joining.{own_of-append, Makes-none, Makes-then}
 use Rattle.jsp_rows.specs.Making.{Finishes}
 

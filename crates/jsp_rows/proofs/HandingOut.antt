@@ -8,7 +8,8 @@ use Rattle.jsp_model.specs.declared.state.State.{State}
 use Rattle.jsp_model.specs.declared.step.Step.{Step}
 use Rattle.jsp_model.specs.declared.step.Step.TheVariants as step
 use Rattle.jsp_model.specs.Lookup.{is_open}
-use Rattle.jsp_model.specs.Steps.{is_legal, next, outbox_of}
+use Rattle.jsp_model.specs.Steps.{is_legal, next}
+use Rattle.jsp_model.specs.Outboxes.{outbox_of}
 use Rattle.jsp_model.specs.House.{Makes, handed_out, shuts}
 use Rattle.jsp_rows.proofs.Adding.{makes_one}
 

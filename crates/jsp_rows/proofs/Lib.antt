@@ -1,5 +1,5 @@
 pub mod Adding
 pub mod Finishing
-pub mod FirstChoice
 pub mod HandingOut
+pub mod LeastRows
 pub mod OwnSteps

@@ -4,11 +4,11 @@ ghost use Rattle.jsp_model.specs.declared.house.Input.TheVariants as input;
 ghost use Rattle.jsp_model.specs.declared.house.Why.TheVariants.{NoMemory as no_memory};
 ghost use Rattle.jsp_model.specs.Due.{due};
 ghost use Rattle.jsp_model.specs.House.{Acts, OpensNone, is_input, accepts, acted};
-ghost use Rattle.jsp_model.specs.Image.{IsWithinLimits};
+ghost use Rattle.jsp_model.proofs.Waiting.{NothingWaits};
 ghost use Rattle.jsp_model.specs.Steps.{is_fault};
 ghost use Rattle.jsp_rows.specs.Making.{Adds};
 
-use crate::choosing::choose;
+use crate::choosing::choose_rows;
 use crate::making::{BEFORE, finish, make, make_and_finish};
 use jsp_audit::is_open;
 use jsp_model::{Image, Input, Step, Stopped};
@@ -26,7 +26,9 @@ pub(crate) fn act(
     input: Input,
     log: &mut Vec<Step>,
 ) -> Result<(), Stopped>
-    requires { IsTrue (is_input input) }
+    requires input { IsTrue (is_input input) }
+    requires waits { NothingWaits image.old }
+    ensures still { NothingWaits image.new }
     ensures acts { Acts image.old image.new [] [] log.old.items log.new.items input result }
     ensures opens { OpensNone input result }
     ensures why { IfErr result (λ e. e.why ≡ no_memory) }
@@ -45,7 +47,7 @@ fn make_own(
     log: &mut Vec<Step>,
 ) -> Result<(), Stopped>
     requires input { IsTrue (is_input input) }
-    requires limits { IsWithinLimits image.old }
+    requires waits { NothingWaits image.old }
     requires due { due image.old ≡ None }
     ensures adds { Adds image.old image.new log.old.items log.new.items (acted image.old input result) result }
     ensures opens { OpensNone input result }
@@ -63,7 +65,7 @@ fn make_own(
 }
 
 fn open(alloc: Global, image: &mut Image, session: u64, log: &mut Vec<Step>) -> Result<(), Stopped>
-    requires limits { IsWithinLimits image.old }
+    requires waits { NothingWaits image.old }
     requires due { due image.old ≡ None }
     ensures adds { Adds image.old image.new log.old.items log.new.items (acted image.old (input.Open session) result) result }
     ensures opens { OpensNone (input.Open session) result }
@@ -85,7 +87,7 @@ fn may_open(image: &Image, session: u64) -> bool
 }
 
 fn clock(alloc: Global, image: &mut Image, time: u64, log: &mut Vec<Step>) -> Result<(), Stopped>
-    requires { IsWithinLimits image.old }
+    requires { NothingWaits image.old }
     ensures { Adds image.old image.new log.old.items log.new.items (acted image.old (input.Clock time) result) result }
 {
     make_and_finish(alloc, image, Step::Clock { time }, log)
@@ -98,14 +100,14 @@ fn ask(
     asked: Asked,
     log: &mut Vec<Step>,
 ) -> Result<(), Stopped>
-    requires limits { IsWithinLimits image.old }
+    requires waits { NothingWaits image.old }
     requires due { due image.old ≡ None }
     ensures { Adds image.old image.new log.old.items log.new.items (acted image.old (input.Ask session asked) result) result }
 {
     if !is_open(image.state(), session) {
         return Ok(());
     }
-    match choose(alloc, image.state(), session, &asked) {
+    match choose_rows(alloc, image.state(), session, asked.id(), asked.ask()) {
         Err(_) => Err(BEFORE),
         Ok(rows) => make_and_finish(
             alloc,
@@ -129,7 +131,7 @@ fn fault(
     log: &mut Vec<Step>,
 ) -> Result<(), Stopped>
     requires fault { IsTrue (is_fault refusal) }
-    requires limits { IsWithinLimits image.old }
+    requires waits { NothingWaits image.old }
     requires due { due image.old ≡ None }
     ensures { Adds image.old image.new log.old.items log.new.items (acted image.old (input.Fault session id refusal) result) result }
 {

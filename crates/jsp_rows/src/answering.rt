@@ -3,7 +3,8 @@ ghost use Rattle.std.specs.Prelude.{◌≡◌, ◌≤◌, ◌<◌, [], ◌∷◌
 ghost use Rattle.jsp_model.specs.declared.step.Step.TheVariants as step;
 ghost use Rattle.jsp_model.specs.declared.house.Why.TheVariants.{NoMemory as no_memory};
 ghost use Rattle.jsp_model.specs.House.{Makes, handed_out, shuts};
-ghost use Rattle.jsp_model.specs.Steps.{outbox_of};
+ghost use Rattle.jsp_model.proofs.Waiting.{NothingWaits};
+ghost use Rattle.jsp_model.specs.Outboxes.{outbox_of};
 
 use crate::making::{BEFORE, enter};
 use jsp_audit::{hand_out, is_open, shut, waiting};
@@ -21,6 +22,8 @@ pub(crate) fn answer(
     most: u64,
     log: &mut Vec<Step>,
 ) -> Result<Vec<Said>, Stopped>
+    requires { NothingWaits image.old }
+    ensures still { NothingWaits image.new }
     ensures answers { IfOk result (λ v. v.items ≡ take most (outbox_of image.old session)) }
     ensures steps { IfOk result (λ v. Makes image.old image.new log.old.items log.new.items (handed_out session (length v.items))) }
     ensures err { OnErr result ((image.new ≡ image.old) × (log.new.items ≡ log.old.items)) }
@@ -45,8 +48,10 @@ fn answer_some(
     count: u64,
     log: &mut Vec<Step>,
 ) -> Result<Vec<Said>, NoMemory>
+    requires waits { NothingWaits image.old }
     requires some { 1 ≤ count }
     requires there { count ≤ length (outbox_of image.old session) }
+    ensures still { NothingWaits image.new }
     ensures answers { IfOk result (λ v. v.items ≡ take count (outbox_of image.old session)) }
     ensures steps { IfOk result (λ v. Makes image.old image.new log.old.items log.new.items (step.HandOut session count ∷ [])) }
     ensures err { OnErr result ((image.new ≡ image.old) × (log.new.items ≡ log.old.items)) }
@@ -59,8 +64,10 @@ fn answer_some(
 
 /// Closes a session, if it is open. Takes no memory: the log has room for the step.
 pub(crate) fn close(image: &mut Image, session: u64, log: &mut Vec<Step>)
-    requires { vec_len log.old < vec_capacity log.old }
-    ensures { Makes image.old image.new log.old.items log.new.items (shuts image.old session) }
+    requires waits { NothingWaits image.old }
+    requires room { vec_len log.old < vec_capacity log.old }
+    ensures still { NothingWaits image.new }
+    ensures steps { Makes image.old image.new log.old.items log.new.items (shuts image.old session) }
 {
     if is_open(image.state(), session) {
         shut(image, session);

@@ -1,7 +1,7 @@
 //! Making steps and entering them in the log.
 ghost use Rattle.std.specs.Prelude.{◌≡◌, ◌<◌, ◌++◌, ◌∷◌, [], OnOk, OnErr, IsTrue, not, vec_len, vec_capacity};
-ghost use Rattle.jsp_model.specs.House.{is_free};
-ghost use Rattle.jsp_model.specs.Image.{IsWithinLimits};
+ghost use Rattle.jsp_model.specs.House.{is_unasked};
+ghost use Rattle.jsp_model.proofs.Waiting.{NothingWaits, asks_built};
 ghost use Rattle.jsp_model.specs.Steps.{is_legal, next};
 ghost use Rattle.jsp_rows.specs.Making.{Finishes, Adds, if_done};
 
@@ -29,11 +29,13 @@ pub(crate) fn make(
     step: Step,
     log: &mut Vec<Step>,
 ) -> Result<(), NoMemory>
-    requires { IsTrue (is_legal image.old step) }
+    requires legal { IsTrue (is_legal image.old step) }
+    requires waits { NothingWaits image.old }
+    requires built { IsTrue (asks_built step) }
     ensures made { OnOk result (image.new ≡ next image.old step) }
     ensures log { OnOk result (log.new.items ≡ log.old.items ++ step ∷ []) }
     ensures err { OnErr result ((image.new ≡ image.old) × (log.new.items ≡ log.old.items)) }
-    ensures limits { OnOk result (IsWithinLimits image.new) }
+    ensures still { NothingWaits image.new }
 {
     log.reserve(1)?;
     apply(alloc, image, &step)?;
@@ -51,6 +53,7 @@ pub(crate) fn enter(log: &mut Vec<Step>, step: Step)
 
 /// Makes what is due, one by one, until nothing is.
 pub(crate) fn finish(alloc: Global, image: &mut Image, log: &mut Vec<Step>) -> Result<(), NoMemory>
+    requires { NothingWaits image.old }
     ensures { Finishes image.old image.new log.old.items log.new.items result }
 {
     'items: while let Some(item) = due(image.state()) {
@@ -66,9 +69,10 @@ pub(crate) fn make_and_finish(
     step: Step,
     log: &mut Vec<Step>,
 ) -> Result<(), Stopped>
-    requires limits { IsWithinLimits image.old }
+    requires waits { NothingWaits image.old }
     requires legal { IsTrue (is_legal image.old step) }
-    requires asked { IsTrue (not (is_free step)) }
+    requires asked { IsTrue (not (is_unasked step)) }
+    requires built { IsTrue (asks_built step) }
     ensures { Adds image.old image.new log.old.items log.new.items (if_done step result) result }
 {
     match make(alloc, image, step, log) {

@@ -20,10 +20,13 @@ pub struct RowsHouse {
 
 impl Model for RowsHouse {
     ghost use Rattle.jsp_model.specs.declared.state.State.{State};
+    ghost use Rattle.jsp_model.proofs.Waiting.{NothingWaits};
 
     ghost Value = { State };
 
     ghost view = { λ h. h.image };
+
+    ghost invariant = { λ h. NothingWaits h.image };
 }
 
 impl RowsHouse {

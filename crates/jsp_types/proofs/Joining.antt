@@ -47,11 +47,11 @@ not-false : (b : Bool) → not b ≡ false → b ≡ true
 not-false true e = refl
 not-false false e = cc
 
-parent_declared : (classes : List Class) (o : Option (List ℕ)) → option_map_or (λ p. not (is_declared classes p)) o false ≡ false → option_map_or (is_declared classes) o true ≡ true
+pub parent_declared : (classes : List Class) (o : Option (List ℕ)) → option_map_or (λ p. not (is_declared classes p)) o false ≡ false → option_map_or (is_declared classes) o true ≡ true
 parent_declared classes None e = refl
 parent_declared classes (Some p) e = not-false _ e
 
-depth_above-line_above : (classes : List Class) (o : Option (List ℕ)) → option_map_or (λ p. length (line_of classes p)) o 0 ≡ length (option_map_or (line_of classes) o [])
+pub depth_above-line_above : (classes : List Class) (o : Option (List ℕ)) → option_map_or (λ p. length (line_of classes p)) o 0 ≡ length (option_map_or (line_of classes) o [])
 depth_above-line_above classes None = refl
 depth_above-line_above classes (Some p) = refl
 
@@ -96,7 +96,7 @@ inherited-line_above : (classes : List Class) (o : Option (List ℕ)) → flat_m
 inherited-line_above classes None = refl
 inherited-line_above classes (Some p) = refl
 
-fields_of-new : (classes : List Class) (c : Class) → HasParents classes → class_named classes c.name ≡ None → option_map_or (is_declared classes) c.parent true ≡ true → length (line_above classes c) ≤ 15 → fields_of (classes ++ c ∷ []) c.name ≡ inherited classes c ++ c.fields
+pub fields_of-new : (classes : List Class) (c : Class) → HasParents classes → class_named classes c.name ≡ None → option_map_or (is_declared classes) c.parent true ≡ true → length (line_above classes c) ≤ 15 → fields_of (classes ++ c ∷ []) c.name ≡ inherited classes c ++ c.fields
 fields_of-new classes c closed new there short =
     let own : flat_map (own_fields (classes ++ c ∷ [])) (c.name ∷ []) ≡ c.fields ++ [] = ap (λ o. option_map_or (λ d. d.fields) o [] ++ []) (class_named-new classes c new) in
     ap (λ line. flat_map (own_fields (classes ++ c ∷ [])) (reverse line)) (line_of-new classes c closed new there short)
@@ -137,14 +137,14 @@ IsKept-grown classes c k closed one =
 
 -- ---- the limits
 
-abbrev are_short : List (List ℕ × Kind) → Bool
+abbrev pub are_short : List (List ℕ × Kind) → Bool
 are_short fields = list_all (λ f. nat_le (length f.0) 64) fields
 
-name_is_short : (name : List ℕ) → is_name name ≡ true → nat_le (length name) 64 ≡ true
+pub name_is_short : (name : List ℕ) → is_name name ≡ true → nat_le (length name) 64 ≡ true
 name_is_short name one =
     (and_parts (nat_lt 0 (length name)) (nat_le (length name) 64) (and_parts (nat_lt 0 (length name) && nat_le (length name) 64) (list_all is_name_byte name) one).0).1
 
-names_are_short : (fields : List (List ℕ × Kind)) → list_all (λ f. is_name f.0) fields ≡ true → are_short fields ≡ true
+pub names_are_short : (fields : List (List ℕ × Kind)) → list_all (λ f. is_name f.0) fields ≡ true → are_short fields ≡ true
 names_are_short [] all = refl
 names_are_short (f ∷ fs) all =
     let both = and_parts (is_name f.0) (list_all (λ g. is_name g.0) fs) all in

@@ -5,7 +5,8 @@ use Rattle.std.specs.Option.{option_map_or}
 use Rattle.jsp_types.specs.declared.class.Class.{Class}
 use Rattle.jsp_types.specs.declared.class.ClassFault.{ClassFault}
 use Rattle.jsp_types.specs.declared.class.ClassFault.TheVariants.{BadClass, UnknownParent, TooMany}
-use Rattle.jsp_types.specs.Classes.{first_that, is_declared, has_name, parent_eq, fields_eq, inherited, depth_above}
+use Rattle.jsp_types.specs.Classes.{is_declared, has_name, parent_eq, fields_eq, inherited, depth_above}
+use Rattle.jsp_types.specs.Tests.{first_that}
 
 -- they have one parent and the same fields
 abbrev pub are_alike : Class → Class → Bool

@@ -15,7 +15,8 @@ use Rattle.jsp_types.specs.declared.entry.Template.{Template}
 use Rattle.jsp_types.specs.declared.entry.Template.TheVariants.{Any, Like}
 use Rattle.jsp_types.specs.declared.entry.EntryFault.{EntryFault}
 use Rattle.jsp_types.specs.declared.entry.EntryFault.TheVariants.{UnknownClass, BadEntry}
-use Rattle.jsp_types.specs.Classes.{first_that, is_declared, is_sub, fields_of, are_distinct}
+use Rattle.jsp_types.specs.Classes.{is_declared, is_sub, fields_of, are_distinct}
+use Rattle.jsp_types.specs.Tests.{first_that}
 
 abbrev pub is_null : Value → Bool
 is_null value.Null = true

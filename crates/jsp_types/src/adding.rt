@@ -1,9 +1,9 @@
 //! A class added to the declared ones.
-ghost use Rattle.std.specs.Prelude.{◌≡◌, ◌++◌, ◌∷◌, ◌⊎◌, None, IfOk, IfErr, OnOk, OnErr, option_copied};
+ghost use Rattle.std.specs.Prelude.{◌≡◌, ◌++◌, ◌∷◌, ◌⊎◌, None, Some, IfOk, IfErr, OnOk, OnErr, option_copied, option_map};
 ghost use Rattle.jsp_types.specs.Classes.{class_fault, class_of, declared};
 
 use crate::known::Known;
-use crate::{Class, ClassFault, Classes, Items, Kind, NoMemory, Text};
+use crate::{Class, Classes, DeclareError, Items, Kind, NoMemory, Text};
 use std::alloc::Global;
 
 /// The name and the names above it.
@@ -64,26 +64,27 @@ impl Classes {
     }
 
     /// Declares the class of these fields, in whatever order they are given, or says why it is refused,
-    /// as `fault` does. The same declaration again is `Ok`. `NoMemory` may come in place of any other
-    /// answer. On `Err` nothing is changed.
+    /// as `fault` does (`DeclareError::Fault`). The same declaration again is `Ok`. `NoMemory` may come
+    /// in place of any other answer. On `Err` nothing is changed.
     pub fn declare(
         &mut self,
         name: &str,
         parent: Option<&str>,
         fields: &[(Text, Kind)],
-    ) -> Result<(), ClassFault>
+    ) -> Result<(), DeclareError>
         ensures accepted { let class = class_of name.now (option_copied parent.entry) fields.now in
             OnOk result (class_fault self.old class ≡ None) }
         ensures ok { let class = class_of name.now (option_copied parent.entry) fields.now in
             OnOk result (self.new ≡ declared self.old class) }
         ensures fault { let class = class_of name.now (option_copied parent.entry) fields.now in
             IfErr result
-            (λ fault. (fault ≡ ClassFault.NoMemory) ⊎ (class_fault self.old class ≡ Some fault)) }
+            (λ error. (error ≡ DeclareError.NoMemory)
+            ⊎ (option_map DeclareError.Fault (class_fault self.old class) ≡ Some error)) }
         ensures err { OnErr result (self.new ≡ self.old) }
     {
         let class = Class::new(self.alloc, name, parent, fields)?;
         if let Some(fault) = self.fault(&class) {
-            return Err(fault);
+            return Err(DeclareError::Fault(fault));
         }
         self.add(class)?;
         Ok(())

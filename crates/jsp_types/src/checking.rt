@@ -1,12 +1,15 @@
 //! Entries and templates checked against the declared classes.
-ghost use Rattle.std.specs.Prelude.{◌≡◌, nat_le, sum_by, find, bytes_eq, None, Some, option_map, option_copied, unwrap_or, IfOk, IfErr, OnOk, IsTrue};
+ghost use Rattle.std.specs.Prelude.{◌≡◌, nat_le, sum_by, find, bytes_eq, None, Some, option_map, option_copied, IfOk, IfErr, OnOk, IsTrue};
 ghost use Rattle.std.specs.List.{list_all};
+ghost use Rattle.std.specs.Option.{option_map_or};
 ghost use Rattle.jsp_types.specs.Matching.{text_len, value_at, entry_of, entry_fault, template_of, template_fault, is_small, is_small_template};
 ghost use Rattle.jsp_types.specs.Checking.{is_field_among, filled, is_bad_for, IsAccepted};
 
 use crate::matching::find_value;
 use crate::names::are_distinct;
-use crate::{Classes, Entry, EntryFault, Items, Kind, NoMemory, Raw, Template, Text, Value};
+use crate::{
+    Classes, Entry, EntryError, EntryFault, Items, Kind, NoMemory, Raw, Template, Text, Value,
+};
 use std::alloc::Global;
 
 /// How many bytes of text an entry may hold.
@@ -132,14 +135,15 @@ pub fn template_fault(classes: &Classes, raw: Option<&Raw>) -> Option<EntryFault
     }
 }
 
-/// The entry, with null for each field that isn't given, or why it is refused. `NoMemory` comes
-/// only where it isn't refused.
-pub fn check_entry(alloc: Global, classes: &Classes, raw: &Raw) -> Result<Entry, EntryFault>
+/// The entry, with null for each field that isn't given, or why it is refused (`EntryError::Fault`,
+/// as `entry_fault`). `NoMemory` comes only where it isn't refused.
+pub fn check_entry(alloc: Global, classes: &Classes, raw: &Raw) -> Result<Entry, EntryError>
     ensures entry { IfOk result (λ entry. entry ≡ entry_of classes.now raw.now) }
     ensures within_limits { IfOk result (λ entry. IsTrue (is_small entry)) }
     ensures ok { OnOk result (entry_fault classes.now raw.now ≡ None) }
     ensures err { IfErr result
-        (λ fault. fault ≡ unwrap_or (entry_fault classes.now raw.now) EntryFault.NoMemory) }
+        (λ error. error
+        ≡ option_map_or EntryError.Fault (entry_fault classes.now raw.now) EntryError.NoMemory) }
 {
     let fields = accepting_fields(classes, raw)?;
     let class = raw.class.clone()?;
@@ -147,20 +151,23 @@ pub fn check_entry(alloc: Global, classes: &Classes, raw: &Raw) -> Result<Entry,
     Ok(Entry { class, fields })
 }
 
-/// The template, with null for each field that isn't given, or why it is refused. `NoMemory` comes
-/// only where it isn't refused.
+/// The template, with null for each field that isn't given, or why it is refused
+/// (`EntryError::Fault`, as `template_fault`). `NoMemory` comes only where it isn't refused.
 pub fn check_template(
     alloc: Global,
     classes: &Classes,
     raw: Option<&Raw>,
-) -> Result<Template, EntryFault>
+) -> Result<Template, EntryError>
     ensures template { IfOk result
         (λ template. template ≡ template_of classes.now (option_copied raw.entry)) }
     ensures within_limits { IfOk result (λ template. IsTrue (is_small_template template)) }
     ensures ok { OnOk result (template_fault classes.now (option_copied raw.entry) ≡ None) }
     ensures err { IfErr result
-        (λ fault. fault
-        ≡ unwrap_or (template_fault classes.now (option_copied raw.entry)) EntryFault.NoMemory) }
+        (λ error. error
+        ≡ option_map_or
+        EntryError.Fault
+        (template_fault classes.now (option_copied raw.entry))
+        EntryError.NoMemory) }
 {
     match raw {
         None => Ok(Template::Any),

@@ -25,9 +25,9 @@ mod text;
 mod value;
 
 pub use checking::{check_entry, check_template, entry_fault, template_fault};
-pub use class::{Class, ClassFault};
+pub use class::{Class, ClassFault, DeclareError};
 pub use classes::Classes;
-pub use entry::{Entry, EntryFault, Raw, Template};
+pub use entry::{Entry, EntryError, EntryFault, Raw, Template};
 pub use items::Items;
 pub use matching::matches;
 pub use std::alloc::AllocError as NoMemory;

@@ -77,12 +77,19 @@ pub struct Contents {
 /// One operation.
 #[derive(Drop)]
 pub enum Ask {
+    /// A class is declared (this profile's own).
     Declare(Declare),
+    /// An entry is written (JavaSpaces).
     Write(Write),
+    /// An entry is read; the request may wait (JavaSpaces).
     Read(Search),
+    /// An entry is read if it exists (JavaSpaces).
     ReadIf(Search),
+    /// An entry is taken; the request may wait (JavaSpaces).
     Take(Search),
+    /// An entry is taken if it exists (JavaSpaces).
     TakeIf(Search),
+    /// A registration for events (JavaSpaces, Jini Events).
     Notify(Notify),
     /// A lease to be renewed, by its number, for `ms` milliseconds from the renewal on, whatever was
     /// left of it; -1 leaves the time to the server (Jini Leasing).
@@ -95,20 +102,31 @@ pub enum Ask {
     /// Leases to be cancelled one by one, each by its number, as in a `LeaseMap` (Jini Leasing). In
     /// an `Asked` they are 1 to 64, a limit of this profile's own.
     CancelAll { leases: Items<i64> },
+    /// A transaction is begun, with a lease in milliseconds (Jini Transactions).
     Txn { lease: i64 },
+    /// The commit of a transaction is asked (Jini Transactions).
     Commit { txn: i64 },
+    /// A transaction is aborted (Jini Transactions).
     Abort { txn: i64 },
+    /// The state of a transaction is asked (Jini Transactions).
     State { txn: i64 },
+    /// A space loses all that it has, as after a crash (this profile's own).
     Reset { space: Text },
     /// The names of the spaces (this profile's own).
     Spaces,
     /// The session is answered and closed (this profile's own).
     Bye,
+    /// The line has this version from the next frame on (this profile's own).
     Hello { version: Version },
+    /// Entries are written, all or none (this profile's own).
     WriteAll(WriteAll),
+    /// Entries are taken together (this profile's own).
     TakeMany(TakeMany),
+    /// A match set is opened (JavaSpaces contents).
     Contents(Contents),
+    /// The next page of a match set, of at most so many entries (this profile's own).
     Next { set: i64, most: u64 },
+    /// A match set is closed (this profile's own).
     CloseSet { set: i64 },
 }
 

@@ -1,4 +1,4 @@
-use Rattle.std.proofs.Common.{◌≡◌, rules}
+use Rattle.std.proofs.Common.{rules}
 use Rattle.jsp_audit.proofs.RunSoFar.{replaying_more, replaying_fails}
 use Rattle.jsp_audit.proofs.replaying.replay_from.Goals as goal
 

@@ -14,7 +14,7 @@ sessions-smaller g c =
     let short : length answers.items < 18446744073709551615 = omega (arith, answers.small, answers.ok.0, answers.ok.1) in
     (sending_more c.args.act c.in-Some.session 18446744073709551615 (g.H.House.view c.args.house.now) (g.H.House.view c.sessions.house) (g.H.House.view c.hand_out.new.self) _ _ _ _ _ _ answers.items
     c.sessions.invariant (sym c.first_waiting.ensures ∙ c.in-Some.is) c.in-Ok.ensures.answers short c.in-Ok.ensures.steps
-    (c.in_ok-post-in-Ok.ensures ∙ ap (λ (w : List Reply). c.sessions.sent.items ++ map (frame_for c.args.act c.in-Some.session) w) c.as_slice.ensures.value)).1
+    (c.in_ok-send_to-in-Ok.ensures ∙ ap (λ (w : List Reply). c.sessions.sent.items ++ map (frame_for c.args.act c.in-Some.session) w) c.as_slice.ensures.value)).1
 
 pub sessions-preserved : goal.sessions-preserved
 sessions-preserved g c =
@@ -22,4 +22,4 @@ sessions-preserved g c =
     let short : length answers.items < 18446744073709551615 = omega (arith, answers.small, answers.ok.0, answers.ok.1) in
     (sending_more c.args.act c.in-Some.session 18446744073709551615 (g.H.House.view c.args.house.now) (g.H.House.view c.sessions.house) (g.H.House.view c.hand_out.new.self) _ _ _ _ _ _ answers.items
     c.sessions.invariant (sym c.first_waiting.ensures ∙ c.in-Some.is) c.in-Ok.ensures.answers short c.in-Ok.ensures.steps
-    (c.in_ok-post-in-Ok.ensures ∙ ap (λ (w : List Reply). c.sessions.sent.items ++ map (frame_for c.args.act c.in-Some.session) w) c.as_slice.ensures.value)).0
+    (c.in_ok-send_to-in-Ok.ensures ∙ ap (λ (w : List Reply). c.sessions.sent.items ++ map (frame_for c.args.act c.in-Some.session) w) c.as_slice.ensures.value)).0

@@ -1,9 +1,10 @@
-use Rattle.std.proofs.Common.{length}
+use Rattle.jsp_model.proofs.Waiting.{NothingWaits}
+use Rattle.jsp_quiet.specs.Quieting.{living}
 use Rattle.jsp_rows.proofs.Finishing.{Finishing}
 use Rattle.jsp_rows.proofs.making.finish.Given as goal
 
 abbrev pub invariant-items : goal.invariant-items
-invariant-items l = Finishing l.initial.image l.image l.initial.log.items l.log.items
+invariant-items l = Finishing l.initial.image l.image l.initial.log.items l.log.items × NothingWaits l.image
 
 abbrev pub decreases-items : goal.decreases-items
-decreases-items l = length l.image.rows
+decreases-items l = living l.image

@@ -1,0 +1,28 @@
+use Rattle.std.proofs.Common.{◌≤◌, ◌∙◌, ap, sym, subst, length}
+use Rattle.std.proofs.lemmas.Result.{on_ok_weaker}
+use Rattle.jsp_model.specs.declared.state.State.{State}
+use Rattle.jsp_model.specs.declared.step.Step.TheVariants as step
+use Rattle.jsp_model.specs.Outboxes.{outbox_of}
+use Rattle.jsp_model.specs.Steps.{next}
+use Rattle.jsp_model.proofs.Apart.{next_handed}
+use Rattle.jsp_state.specs.Outboxes.{after_handing}
+use Rattle.jsp_audit.proofs.Stepping.{limits_handed, limits_either}
+use Rattle.jsp_audit.proofs.applying.hand_out.Goals as goal
+
+pub invariant_of-image : goal.invariant_of-image
+invariant_of-image c =
+    let st = c.image.inside.state in
+    let there = subst (λ (w : State). c.args.count ≤ length (outbox_of w c.args.session)) (sym c.image.view_is) c.requires.there in
+    limits_either c.hand_out.result st (after_handing st c.args.session c.args.count) c.hand_out.new.state c.image.invariant
+    (limits_handed st c.args.session c.args.count c.image.invariant c.requires.some there)
+    c.hand_out.ensures.ok
+    c.hand_out.ensures.err
+
+pub returns-clause-ok : goal.returns-clause-ok
+returns-clause-ok c =
+    on_ok_weaker c.hand_out.result
+    (λ e. e ∙ sym (next_handed c.image.inside.state c.args.session c.args.count) ∙ ap (λ (w : State). next w (step.HandOut c.args.session c.args.count)) c.image.view_is)
+    c.hand_out.ensures.ok
+
+pub returns-clause-limits : goal.returns-clause-limits
+returns-clause-limits c = invariant_of-image c

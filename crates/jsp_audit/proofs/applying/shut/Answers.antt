@@ -1,0 +1,16 @@
+use Rattle.std.proofs.Common.{◌≡◌, ◌∙◌, ap, sym, subst, true}
+use Rattle.jsp_model.specs.declared.state.State.{State}
+use Rattle.jsp_model.specs.declared.step.Step.TheVariants as step
+use Rattle.jsp_model.specs.Lookup.{is_open}
+use Rattle.jsp_model.specs.Steps.{next}
+use Rattle.jsp_model.specs.Limits.{IsWithinLimits}
+use Rattle.jsp_audit.proofs.Stepping.{shut_is, limits_shut}
+use Rattle.jsp_audit.proofs.applying.shut.Goals as goal
+
+pub invariant_of-image : goal.invariant_of-image
+invariant_of-image c =
+    let here = subst (λ (w : State). is_open w c.args.session ≡ true) (sym c.image.view_is) c.requires in
+    subst IsWithinLimits (sym c.close.ensures) (limits_shut c.image.inside.state c.args.session c.image.invariant here)
+
+pub returns : goal.returns
+returns c = c.close.ensures ∙ shut_is c.image.inside.state c.args.session ∙ ap (λ (w : State). next w (step.Shut c.args.session)) c.image.view_is

@@ -1,7 +1,0 @@
-use Rattle.std.proofs.Common.{◌≡◌, ◌∙◌, ap}
-use Rattle.jsp_types.specs.Classes.{class_fault}
-use Rattle.jsp_audit.proofs.Accepting.{declare_good}
-use Rattle.jsp_audit.proofs.requests.accept_declare.Goals as goal
-
-pub add-requires : goal.add-requires
-add-requires c = ap (class_fault c.args.state.now.classes) c.in_ok-class.ensures ∙ declare_good c.args.state.now c.args.session c.args.id c.args.declare.now c.requires.accepted

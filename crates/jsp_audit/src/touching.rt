@@ -1,0 +1,183 @@
+//! The spaces that a step touches.
+ghost use Rattle.std.specs.Prelude.{◌≡◌, ◌==◌, ◌∷◌, [], IfOk, filter, flat_map, map};
+ghost use Rattle.jsp_model.specs.Lookup.{named as number_named, joined_spaces as joined_by};
+ghost use Rattle.jsp_model.specs.Quiet.{are_quiet as all_quiet};
+ghost use Rattle.jsp_model.specs.Touches.{touches as touched, ask_touches as touched_by_ask, item_touches as touched_by_item, lease_touches as touched_by_lease, set_touches as touched_by_set, name_touches as touched_by_name};
+
+use jsp_model::{Blocked, Image, Joined, MatchSet, Registration, Row, State, Step};
+use jsp_state::{is_quiet, named, space_named, transaction_of};
+use jsp_types::{Items, NoMemory};
+use jsp_wire::Ask;
+use std::alloc::Global;
+
+/// The spaces that the step touches, by their places in the configured order; one may stand there
+/// twice. A request, an end or a vote is made only where they are quiet (this profile's own).
+#[tactic(auto, unfolding(jsp_model::specs::Touches::touches))]
+pub fn touches(alloc: Global, image: &Image, step: &Step) -> Result<Items<u64>, NoMemory>
+    ensures { IfOk result (λ v. v ≡ touched image.now step.now) }
+{
+    let state = image.state();
+    let spaces = match step {
+        Step::Ask { asked, .. } => ask_touches(alloc, state, asked.ask())?,
+        Step::Due { item } => item_touches(alloc, state, item.number)?,
+        Step::Vote { space, .. } => only(alloc, *space)?,
+        _ => Vec::new(alloc),
+    };
+    Ok(Items::from_vec(spaces))
+}
+
+/// Whether each of the spaces is quiet: it owes nothing.
+pub fn are_quiet(state: &State, spaces: &[u64]) -> bool
+    ensures { result ≡ all_quiet state.now spaces.now }
+{
+    spaces.iter().all(|space| is_quiet(state, *space))
+}
+
+/// The spaces that a request touches.
+pub(crate) fn ask_touches(alloc: Global, state: &State, ask: &Ask) -> Result<Vec<u64>, NoMemory>
+    ensures { IfOk result (λ v. v.items ≡ touched_by_ask state.now ask.now) }
+{
+    match ask {
+        Ask::Write(asked) => name_touches(alloc, state, asked.space.as_str()),
+        Ask::WriteAll(asked) => name_touches(alloc, state, asked.space.as_str()),
+        Ask::Read(asked) => name_touches(alloc, state, asked.space.as_str()),
+        Ask::ReadIf(asked) => name_touches(alloc, state, asked.space.as_str()),
+        Ask::Take(asked) => name_touches(alloc, state, asked.space.as_str()),
+        Ask::TakeIf(asked) => name_touches(alloc, state, asked.space.as_str()),
+        Ask::TakeMany(asked) => name_touches(alloc, state, asked.space.as_str()),
+        Ask::Notify(asked) => name_touches(alloc, state, asked.space.as_str()),
+        Ask::Contents(asked) => name_touches(alloc, state, asked.space.as_str()),
+        Ask::Reset { space } => name_touches(alloc, state, space.as_str()),
+        Ask::Renew { lease, .. } => lease_touches(alloc, state, named(*lease)),
+        Ask::Cancel { lease } => lease_touches(alloc, state, named(*lease)),
+        Ask::RenewAll { leases } => renewals_touch(alloc, state, leases.as_slice()),
+        Ask::CancelAll { leases } => leases_touch(alloc, state, leases.as_slice()),
+        Ask::Commit { txn } => joined_spaces(alloc, state, named(*txn)),
+        Ask::Abort { txn } => joined_spaces(alloc, state, named(*txn)),
+        Ask::Next { set, .. } => set_touches(alloc, state, named(*set)),
+        Ask::CloseSet { set } => set_touches(alloc, state, named(*set)),
+        _ => Ok(Vec::new(alloc)),
+    }
+}
+
+/// The spaces that the end of the item of this number touches.
+pub(crate) fn item_touches(alloc: Global, state: &State, number: u64) -> Result<Vec<u64>, NoMemory>
+    ensures { IfOk result (λ v. v.items ≡ touched_by_item state.now number) }
+{
+    let mut spaces = lease_touches(alloc, state, number)?;
+    let blocked = spaces_of_blocked(alloc, state.blocked.as_slice(), number)?;
+    spaces.extend_from_slice(blocked.as_slice())?;
+    Ok(spaces)
+}
+
+/// One space alone.
+fn only(alloc: Global, space: u64) -> Result<Vec<u64>, NoMemory>
+    ensures { IfOk result (λ v. v.items ≡ space ∷ []) }
+{
+    let mut spaces = Vec::new(alloc);
+    spaces.push(space)?;
+    Ok(spaces)
+}
+
+/// The space of this name, if there is one.
+fn name_touches(alloc: Global, state: &State, name: &str) -> Result<Vec<u64>, NoMemory>
+    ensures { IfOk result (λ v. v.items ≡ touched_by_name state.now name.now) }
+{
+    match space_named(state, name) {
+        None => Ok(Vec::new(alloc)),
+        Some(space) => only(alloc, space),
+    }
+}
+
+fn renewals_touch(alloc: Global, state: &State, leases: &[(i64, i64)]) -> Result<Vec<u64>, NoMemory>
+    ensures { IfOk result (λ v. v.items ≡ flat_map (λ l. touched_by_lease state.now (number_named l.0)) leases.now) }
+{
+    let mut spaces = Vec::new(alloc);
+    'leases: for lease in leases {
+        let touched = lease_touches(alloc, state, named(lease.0))?;
+        spaces.extend_from_slice(touched.as_slice())?;
+    }
+    Ok(spaces)
+}
+
+fn leases_touch(alloc: Global, state: &State, leases: &[i64]) -> Result<Vec<u64>, NoMemory>
+    ensures { IfOk result (λ v. v.items ≡ flat_map (λ l. touched_by_lease state.now (number_named l)) leases.now) }
+{
+    let mut spaces = Vec::new(alloc);
+    'leases: for lease in leases {
+        let touched = lease_touches(alloc, state, named(*lease))?;
+        spaces.extend_from_slice(touched.as_slice())?;
+    }
+    Ok(spaces)
+}
+
+/// The space of the row, registration or match set of this number, or the joined spaces of the
+/// transaction.
+fn lease_touches(alloc: Global, state: &State, number: u64) -> Result<Vec<u64>, NoMemory>
+    ensures { IfOk result (λ v. v.items ≡ touched_by_lease state.now number) }
+{
+    let mut spaces = spaces_of_rows(alloc, state.rows.as_slice(), number)?;
+    let registrations = state.registrations.as_slice();
+    let hearing = spaces_of_registrations(alloc, registrations, number)?;
+    spaces.extend_from_slice(hearing.as_slice())?;
+    let shown = set_touches(alloc, state, number)?;
+    spaces.extend_from_slice(shown.as_slice())?;
+    let joined = joined_spaces(alloc, state, number)?;
+    spaces.extend_from_slice(joined.as_slice())?;
+    Ok(spaces)
+}
+
+fn spaces_of_rows(alloc: Global, rows: &[Row], number: u64) -> Result<Vec<u64>, NoMemory>
+    ensures { IfOk result (λ v. v.items ≡ map (λ r. r.space) (filter (λ r. r.number == number) rows.now)) }
+{
+    let named = rows.iter().filter(|r| r.number == number);
+    named.map(|r| r.space).collect(alloc)
+}
+
+fn spaces_of_registrations(
+    alloc: Global,
+    registrations: &[Registration],
+    number: u64,
+) -> Result<Vec<u64>, NoMemory>
+    ensures { IfOk result (λ v. v.items ≡ map (λ r. r.space) (filter (λ r. r.number == number) registrations.now)) }
+{
+    let named = registrations.iter().filter(|r| r.number == number);
+    named.map(|r| r.space).collect(alloc)
+}
+
+fn spaces_of_blocked(alloc: Global, blocked: &[Blocked], number: u64) -> Result<Vec<u64>, NoMemory>
+    ensures { IfOk result (λ v. v.items ≡ map (λ b. b.space) (filter (λ b. b.number == number) blocked.now)) }
+{
+    let named = blocked.iter().filter(|b| b.number == number);
+    named.map(|b| b.space).collect(alloc)
+}
+
+/// The space of the match set of this number.
+fn set_touches(alloc: Global, state: &State, number: u64) -> Result<Vec<u64>, NoMemory>
+    ensures { IfOk result (λ v. v.items ≡ touched_by_set state.now number) }
+{
+    spaces_of_sets(alloc, state.sets.as_slice(), number)
+}
+
+fn spaces_of_sets(alloc: Global, sets: &[MatchSet], number: u64) -> Result<Vec<u64>, NoMemory>
+    ensures { IfOk result (λ v. v.items ≡ map (λ m. m.space) (filter (λ m. m.number == number) sets.now)) }
+{
+    let named = sets.iter().filter(|m| m.number == number);
+    named.map(|m| m.space).collect(alloc)
+}
+
+/// The spaces that joined the transaction.
+fn joined_spaces(alloc: Global, state: &State, x: u64) -> Result<Vec<u64>, NoMemory>
+    ensures { IfOk result (λ v. v.items ≡ joined_by state.now x) }
+{
+    match transaction_of(state, x) {
+        None => Ok(Vec::new(alloc)),
+        Some(transaction) => spaces_of_joined(alloc, transaction.joined.as_slice()),
+    }
+}
+
+fn spaces_of_joined(alloc: Global, joined: &[Joined]) -> Result<Vec<u64>, NoMemory>
+    ensures { IfOk result (λ v. v.items ≡ map (λ j. j.space) joined.now) }
+{
+    joined.iter().map(|j| j.space).collect(alloc)
+}

@@ -1,0 +1,6 @@
+mod Chosen
+mod Declaring
+mod Given
+mod Numbers
+mod Searching
+mod Writing

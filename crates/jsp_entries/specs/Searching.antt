@@ -1,0 +1,28 @@
+-- Why a request for rows can't wait, and what it is answered.
+use Rattle.std.specs.Prelude.{ℕ, ◌&&◌, nat_le, if◌then◌else◌, List, [], ◌∷◌, Option}
+use Rattle.jsp_types.specs.declared.entry.Entry.{Entry}
+use Rattle.jsp_reply.specs.declared.refusal.Refusal.TheVariants.{BadTimeout, TooManyWaiting, UsedUp}
+use Rattle.jsp_reply.specs.declared.reply.Reply.{Reply}
+use Rattle.jsp_reply.specs.declared.reply.Reply.TheVariants as says
+use Rattle.jsp_model.specs.declared.state.State.{State}
+use Rattle.jsp_model.specs.declared.state.Blocked.{Blocked}
+use Rattle.jsp_model.specs.declared.state.Form.{Form}
+use Rattle.jsp_model.specs.Lookup.{waiting_count}
+use Rattle.jsp_model.specs.Requests.{RowRequest, would_block}
+use Rattle.jsp_model.specs.Answers.{is_many}
+use Rattle.jsp_model.specs.Refusals.{Tests, is_negative, is_used_up}
+
+abbrev pub waiting_tests : State → ℕ → ℕ → RowRequest → Tests
+waiting_tests st s id q =
+    (is_negative q.timeout, BadTimeout)
+    ∷ (would_block st s id q && nat_le 64 (waiting_count st s), TooManyWaiting)
+    ∷ (would_block st s id q && is_used_up st 1, UsedUp)
+    ∷ []
+
+-- the answer to a request of this form that is given these entries
+abbrev pub reply_with : Form → ℕ → List Entry → Reply
+reply_with form id [] = says.Nothing id
+reply_with form id (e ∷ es) = if is_many form then says.Many id (e ∷ es) else says.Shown id e
+
+abbrev pub form_and_caller : Blocked → Form × Option ℕ
+form_and_caller b = (b.form, b.transaction)

@@ -1,0 +1,87 @@
+//! A request for rows, and as it waits.
+ghost use Rattle.std.specs.Prelude.{◌≡◌, ◌==◌, ◌≤◌, ◌^◌, IfOk, filter, find, not, option_copied};
+ghost use Rattle.jsp_model.specs.Lookup.{blocked_of};
+ghost use Rattle.jsp_model.specs.Requests.{as_blocked as waiting_as};
+ghost use Rattle.jsp_model.specs.Changes.{unblock as unblocked};
+ghost use Rattle.jsp_state.specs.Fitting.{AllFit};
+ghost use Rattle.jsp_entries.specs.Asking.{rows_of, end_asked};
+
+use jsp_model::{Blocked, Form, State};
+use jsp_state::{caller_of, named, place_of, templates_of};
+use jsp_types::{NoMemory, Raw};
+use std::alloc::Global;
+
+/// What a request for rows asks for: at most so many rows of a space that one of the templates matches.
+#[derive(Clone, Copy)]
+pub struct RowsAsked<'a> {
+    pub form: Form,
+    pub space: &'a str,
+    pub templates: &'a [Option<Raw>],
+    pub most: u64,
+    /// In milliseconds.
+    pub timeout: i64,
+    pub txn: Option<i64>,
+}
+
+/// The last end of a request that waits. It never comes (this profile's own).
+const NEVER: u64 = (1 << 62) + 1;
+
+/// The request as it waits, under the next number.
+pub fn as_blocked(
+    alloc: Global,
+    state: &State,
+    session: u64,
+    id: u64,
+    asked: &RowsAsked,
+) -> Result<Blocked, NoMemory>
+    requires time { state.now.time ≤ 2 ^ 62 }
+    requires templates { AllFit state.now.classes asked.now.templates.now }
+    ensures { IfOk result (λ b. b ≡ waiting_as state.now session id (rows_of asked.now)) }
+{
+    let templates = templates_of(alloc, &state.classes, asked.templates)?;
+    Ok(Blocked {
+        number: state.next_number,
+        session,
+        id,
+        space: place_of(state, asked.space),
+        templates,
+        transaction: caller_of(asked.txn),
+        form: asked.form,
+        most: asked.most,
+        end: end_of(state, asked),
+    })
+}
+
+fn end_of(state: &State, asked: &RowsAsked) -> u64
+    requires { state.now.time ≤ 2 ^ 62 }
+    ensures { result ≡ end_asked state.now (rows_of asked.now) }
+{
+    (state.time + named(asked.timeout)).min(NEVER)
+}
+
+/// The request of this number that waits, if there is one.
+pub fn blocked_named(state: &State, number: u64) -> Option<&Blocked>
+    ensures { option_copied result ≡ blocked_of state.now number }
+{
+    find_blocked(state.blocked.as_slice(), number)
+}
+
+fn find_blocked(blocked: &[Blocked], number: u64) -> Option<&Blocked>
+    ensures { option_copied result ≡ find (λ b. b.number == number) blocked.now }
+{
+    blocked.iter().find(|b| b.number == number)
+}
+
+/// The request of this number waits no longer.
+pub fn unblock(state: &mut State, number: u64)
+    ensures { state.new ≡ unblocked state.old number }
+{
+    let blocked = &mut state.blocked;
+    drop_blocked(&mut blocked.items, number);
+}
+
+fn drop_blocked(blocked: &mut Vec<Blocked>, number: u64)
+    ensures { blocked.new.items ≡ filter (λ b. not (b.number == number)) blocked.old.items }
+{
+    blocked.retain(|b| !(b.number == number));
+}

@@ -1,0 +1,229 @@
+//! Reading and taking: `read`, `take`, their IfExists forms, and `take_many`.
+ghost use Rattle.std.specs.Prelude.{◌≡◌, ◌≤◌, ◌<◌, ◌^◌, false, length, map, option_map, option_to_list, if◌then◌else◌, None, Some, IfOk, OnOk, OnErr, IsTrue};
+ghost use Rattle.jsp_types.specs.Tests.{first_that};
+ghost use Rattle.jsp_model.specs.declared.state.Form.TheVariants as form;
+ghost use Rattle.jsp_model.specs.declared.state.Blocked.{Blocked as Waiting};
+ghost use Rattle.jsp_model.specs.Lookup.{blocked_of};
+ghost use Rattle.jsp_model.specs.Sight.{is_take as takes};
+ghost use Rattle.jsp_model.specs.Limits.{are_rising};
+ghost use Rattle.jsp_model.specs.Requests.{would_block as blocks};
+ghost use Rattle.jsp_model.specs.Changes.{block, give as given, give_or_block};
+ghost use Rattle.jsp_model.specs.Steps.{after_grant};
+ghost use Rattle.jsp_model.specs.Answers.{rows_answer, is_many as many};
+ghost use Rattle.jsp_model.specs.Refusals.{rows_tests, is_negative as lies_below_zero};
+ghost use Rattle.jsp_state.specs.Fitting.{AllFit};
+ghost use Rattle.jsp_entries.specs.Asking.{rows_of};
+ghost use Rattle.jsp_entries.specs.Searching.{waiting_tests, form_and_caller, reply_with};
+
+use crate::blocking::{RowsAsked, as_blocked, blocked_named, unblock};
+use crate::giving::give;
+use jsp_model::{Blocked, Form, State};
+use jsp_reply::{Refusal, Reply};
+use jsp_state::{
+    entries_of, is_used_up, must_wait, named, space_refusal, templates_refusal, waits_for_many,
+};
+use jsp_transactions::{join, leave};
+use jsp_types::{Entry, Items, NoMemory};
+use std::alloc::Global;
+
+/// Why a request for rows is refused, or nothing where it isn't (the order is this profile's own).
+pub fn refuse_search(
+    alloc: Global,
+    state: &State,
+    session: u64,
+    id: u64,
+    asked: &RowsAsked,
+) -> Result<Option<Refusal>, NoMemory>
+    requires { state.now.time ≤ 2 ^ 62 }
+    ensures { IfOk result (λ r. r ≡ first_that (rows_tests state.now session id (rows_of asked.now))) }
+{
+    if let Some(refusal) = space_refusal(state, asked.space, asked.txn) {
+        return Ok(Some(refusal));
+    }
+    if let Some(refusal) = templates_refusal(state, asked.templates) {
+        return Ok(Some(refusal));
+    }
+    refuse_to_wait(alloc, state, session, id, asked)
+}
+
+/// Why a request for rows that could be answered can't wait.
+fn refuse_to_wait(
+    alloc: Global,
+    state: &State,
+    session: u64,
+    id: u64,
+    asked: &RowsAsked,
+) -> Result<Option<Refusal>, NoMemory>
+    requires time { state.now.time ≤ 2 ^ 62 }
+    requires templates { AllFit state.now.classes asked.now.templates.now }
+    ensures { IfOk result (λ r. r ≡ first_that (waiting_tests state.now session id (rows_of asked.now))) }
+{
+    if is_negative(asked) {
+        return Ok(Some(Refusal::BadTimeout));
+    }
+    if !would_block(alloc, state, session, id, asked)? {
+        return Ok(None);
+    }
+    if waits_for_many(state, session) {
+        return Ok(Some(Refusal::TooManyWaiting));
+    }
+    if is_used_up(state, 1) {
+        return Ok(Some(Refusal::UsedUp));
+    }
+    Ok(None)
+}
+
+fn is_negative(asked: &RowsAsked) -> bool
+    ensures { result ≡ lies_below_zero asked.now.timeout }
+{
+    asked.timeout < 0
+}
+
+/// Whether the request would wait.
+pub(crate) fn would_block(
+    alloc: Global,
+    state: &State,
+    session: u64,
+    id: u64,
+    asked: &RowsAsked,
+) -> Result<bool, NoMemory>
+    requires time { state.now.time ≤ 2 ^ 62 }
+    requires templates { AllFit state.now.classes asked.now.templates.now }
+    ensures { IfOk result (λ b. b ≡ blocks state.now session id (rows_of asked.now)) }
+{
+    if named(asked.timeout) == 0 {
+        return Ok(false);
+    }
+    let blocked = as_blocked(alloc, state, session, id, asked)?;
+    Ok(must_wait(state, &blocked))
+}
+
+/// Gives the request its rows, or lets it wait for some, whole or not at all. Its space joins its
+/// transaction.
+pub fn accept_search(
+    alloc: Global,
+    state: &mut State,
+    session: u64,
+    id: u64,
+    rows: &[u64],
+    asked: &RowsAsked,
+) -> Result<(), NoMemory>
+    requires time { state.old.time ≤ 2 ^ 62 }
+    requires numbers { state.old.next_number < 2 ^ 63 }
+    requires rows { IsTrue (are_rising 0 state.old.next_number (map (λ r. r.number) state.old.rows)) }
+    requires transactions { IsTrue (are_rising 0 state.old.next_number (map (λ t. t.number) state.old.transactions)) }
+    requires accepted { first_that (rows_tests state.old session id (rows_of asked.now)) ≡ None }
+    requires one { takes asked.now.form ≡ false → length rows.now ≤ 1 }
+    ensures ok { OnOk result (state.new ≡ give_or_block state.old session id (rows_of asked.now) rows.now) }
+    ensures err { OnErr result (state.new ≡ state.old) }
+{
+    let blocked = as_blocked(alloc, state, session, id, asked)?;
+    let waits = 0 < named(asked.timeout) && must_wait(state, &blocked);
+    let joining = join(state, blocked.transaction, blocked.space)?;
+    match block_or_give(state, blocked, rows, waits) {
+        Ok(()) => Ok(()),
+        Err(e) => {
+            leave(state, joining);
+            Err(e)
+        }
+    }
+}
+
+fn block_or_give(
+    state: &mut State,
+    blocked: Blocked,
+    rows: &[u64],
+    waits: bool,
+) -> Result<(), NoMemory>
+    requires numbers { state.old.next_number < 2 ^ 63 }
+    requires rows { IsTrue (are_rising 0 state.old.next_number (map (λ r. r.number) state.old.rows)) }
+    requires one { takes blocked.form ≡ false → length rows.now ≤ 1 }
+    ensures ok { OnOk result (state.new ≡ (if waits then block state.old blocked else given state.old blocked rows.now)) }
+    ensures err { OnErr result (state.new ≡ state.old) }
+{
+    if waits {
+        state.blocked.push(blocked)?;
+        state.next_number += 1;
+        Ok(())
+    } else {
+        give(state, blocked.form, blocked.transaction, rows)
+    }
+}
+
+/// Gives a request that waits its rows, whole or not at all.
+pub fn grant(state: &mut State, number: u64, rows: &[u64]) -> Result<(), NoMemory>
+    requires rows { IsTrue (are_rising 0 state.old.next_number (map (λ r. r.number) state.old.rows)) }
+    requires one { (b : Waiting) → blocked_of state.old number ≡ Some b → takes b.form ≡ false → length rows.now ≤ 1 }
+    ensures ok { OnOk result (state.new ≡ after_grant state.old number rows.now (blocked_of state.old number)) }
+    ensures err { OnErr result (state.new ≡ state.old) }
+{
+    match request_named(state, number) {
+        None => Ok(()),
+        Some((form, caller)) => {
+            give(state, form, caller, rows)?;
+            unblock(state, number);
+            Ok(())
+        }
+    }
+}
+
+/// The form and the caller of the request of this number that waits.
+fn request_named(state: &State, number: u64) -> Option<(Form, Option<u64>)>
+    ensures { result ≡ option_map form_and_caller (blocked_of state.now number) }
+{
+    match blocked_named(state, number) {
+        None => None,
+        Some(blocked) => Some((blocked.form, blocked.transaction)),
+    }
+}
+
+/// What a request for rows is answered at once: the entries of the rows that it is given, that there
+/// are none, or nothing where it waits.
+pub fn answer_search(
+    alloc: Global,
+    state: &State,
+    session: u64,
+    id: u64,
+    rows: &[u64],
+    asked: &RowsAsked,
+) -> Result<Option<Reply>, NoMemory>
+    requires time { state.now.time ≤ 2 ^ 62 }
+    requires accepted { first_that (rows_tests state.now session id (rows_of asked.now)) ≡ None }
+    ensures { IfOk result (λ r. option_to_list r ≡ rows_answer state.now session id rows.now (rows_of asked.now)) }
+{
+    if would_block(alloc, state, session, id, asked)? {
+        return Ok(None);
+    }
+    let entries = entries_of(alloc, state, rows)?;
+    Ok(Some(answer_with(asked.form, id, entries)))
+}
+
+/// The answer to a request for rows that is given these entries (JavaSpaces: the entry, or null; for
+/// many, this profile's own: a list, or null).
+pub fn answer_with(form: Form, id: u64, entries: Items<Entry>) -> Reply
+    ensures { result ≡ reply_with form id entries }
+{
+    if is_many(form) {
+        return answer_with_all(id, entries);
+    }
+    match entries.into_vec().into_iter().next() {
+        None => Reply::Nothing { id },
+        Some(entry) => Reply::Shown { id, entry },
+    }
+}
+
+fn answer_with_all(id: u64, entries: Items<Entry>) -> Reply
+    ensures { result ≡ reply_with form.TakeMany id entries }
+{
+    if entries.as_slice().is_empty() {
+        Reply::Nothing { id }
+    } else {
+        Reply::Many { id, entries }
+    }
+}
+
+fn is_many(form: Form) -> bool
+    ensures { result ≡ many form }
+{
+    matches!(form, Form::TakeMany)
+}

@@ -1,0 +1,95 @@
+-- Lists: what filtering sees of a list that changed elsewhere.
+use Rattle.std.proofs.Common.{◌≡◌, refl, sym, ap, ◌∙◌, List, [], ◌∷◌, ◌++◌, map, Bool, true, false, cond, ◌||◌, ◌&&◌, filter, flat_map, true≢false}
+use Rattle.std.specs.List.{list_any, list_all}
+use Rattle.std.proofs.lemmas.Bool.{and_parts, and_from}
+use Rattle.std.proofs.lemmas.List.Elements.{filter-append}
+use Rattle.jsp_model.specs.Lookup.{update}
+use Rattle.jsp_laws.proofs.Lists.{Each}
+
+-- ---- a test that passes only where another does
+
+pub filter_within : {A : Type 0} (q t : A → Bool) → ((x : A) → q x ≡ false → t x ≡ false) → (xs : List A) → filter t (filter q xs) ≡ filter t xs
+filter_within q t h [] = refl
+filter_within q t h (x ∷ xs) = go (q x) refl (filter_within q t h xs)
+  where
+    go : (b : Bool) → q x ≡ b → filter t (filter q xs) ≡ filter t xs → filter t (cond b (x ∷ filter q xs) (filter q xs)) ≡ cond (t x) (x ∷ filter t xs) (filter t xs)
+    go true e ih = ap (λ ys. cond (t x) (x ∷ ys) ys) ih
+    go false e ih = rw (h x e) ih
+
+pub any_within : {A : Type 0} (q t : A → Bool) → ((x : A) → q x ≡ false → t x ≡ false) → (xs : List A) → list_any t (filter q xs) ≡ list_any t xs
+any_within q t h [] = refl
+any_within q t h (x ∷ xs) = go (q x) refl (any_within q t h xs)
+  where
+    go : (b : Bool) → q x ≡ b → list_any t (filter q xs) ≡ list_any t xs → list_any t (cond b (x ∷ filter q xs) (filter q xs)) ≡ (t x || list_any t xs)
+    go true e ih = ap (λ y. t x || y) ih
+    go false e ih = rw (h x e) ih
+
+-- ---- tests that agree
+
+pub filter_alike : {A : Type 0} (t u : A → Bool) (xs : List A) → Each (λ x. t x ≡ u x) xs → filter t xs ≡ filter u xs
+filter_alike t u [] h = refl
+filter_alike t u (x ∷ xs) (h, hs) = rw h (ap (λ ys. cond (u x) (x ∷ ys) ys) (filter_alike t u xs hs))
+
+pub any_alike : {A : Type 0} (t u : A → Bool) (xs : List A) → Each (λ x. t x ≡ u x) xs → list_any t xs ≡ list_any u xs
+any_alike t u [] h = refl
+any_alike t u (x ∷ xs) (h, hs) = rw h (ap (λ y. u x || y) (any_alike t u xs hs))
+
+pub all_alike : {A : Type 0} (t u : A → Bool) → ((x : A) → t x ≡ u x) → (xs : List A) → list_all t xs ≡ list_all u xs
+all_alike t u h [] = refl
+all_alike t u h (x ∷ xs) = rw (h x) (ap (λ y. u x && y) (all_alike t u h xs))
+
+-- ---- what a filter sees stays
+
+pub kept_alike : {A : Type 0} (q t : A → Bool) (xs : List A) → Each (λ x. q x ≡ true → t x ≡ true) xs → filter q (filter t xs) ≡ filter q xs
+kept_alike q t [] h = refl
+kept_alike {A = A} q t (x ∷ xs) (h, hs) = go (t x) refl (q x) refl (kept_alike q t xs hs)
+  where
+    go : (b : Bool) → t x ≡ b → (d : Bool) → q x ≡ d → filter q (filter t xs) ≡ filter q xs → filter q (cond b (x ∷ filter t xs) (filter t xs)) ≡ cond d (x ∷ filter q xs) (filter q xs)
+    go true e true k ih = rw k (ap (λ ys. x ∷ ys) ih)
+    go true e false k ih = rw k ih
+    go false e true k ih = absurd (true≢false (sym (h k) ∙ e))
+    go false e false k ih = ih
+
+pub mapped_alike : {A : Type 0} (q : A → Bool) (f : A → A) → ((x : A) → q (f x) ≡ q x) → (xs : List A) → Each (λ x. q x ≡ true → f x ≡ x) xs → filter q (map f xs) ≡ filter q xs
+mapped_alike q f s [] h = refl
+mapped_alike {A = A} q f s (x ∷ xs) (h, hs) = go (q x) refl (mapped_alike q f s xs hs)
+  where
+    go : (d : Bool) → q x ≡ d → filter q (map f xs) ≡ filter q xs → filter q (f x ∷ map f xs) ≡ cond d (x ∷ filter q xs) (filter q xs)
+    go true k ih = rw (s x, k) (rw (h k) (ap (λ ys. x ∷ ys) ih))
+    go false k ih = rw (s x, k) ih
+
+pub updated_alike : {A : Type 0} (q t : A → Bool) (f : A → A) → ((x : A) → q (f x) ≡ q x) → (xs : List A) → Each (λ x. q x ≡ true → t x ≡ false) xs → filter q (update t f xs) ≡ filter q xs
+updated_alike q t f s [] h = refl
+updated_alike {A = A} q t f s (x ∷ xs) (h, hs) = go (t x) refl (q x) refl (updated_alike q t f s xs hs)
+  where
+    go : (b : Bool) → t x ≡ b → (d : Bool) → q x ≡ d → filter q (update t f xs) ≡ filter q xs → filter q (cond b (f x) x ∷ update t f xs) ≡ cond d (x ∷ filter q xs) (filter q xs)
+    go true e true k ih = absurd (true≢false (sym e ∙ h k))
+    go true e false k ih = rw (s x, k) ih
+    go false e true k ih = rw k (ap (λ ys. x ∷ ys) ih)
+    go false e false k ih = rw k ih
+
+pub flat_alike : {A : Type 0} (q : A → Bool) (f : A → List A) (xs : List A) → Each (λ x. filter q (f x) ≡ filter q (x ∷ [])) xs → filter q (flat_map f xs) ≡ filter q xs
+flat_alike q f [] h = refl
+flat_alike {A = A} q f (x ∷ xs) (h, hs) = filter-append q (f x) (flat_map f xs) ∙ rw (h, flat_alike q f xs hs) (go (q x))
+  where
+    go : (d : Bool) → cond d (x ∷ []) [] ++ filter q xs ≡ cond d (x ∷ filter q xs) (filter q xs)
+    go true = refl
+    go false = refl
+
+-- ---- what all pass
+
+pub all_updated : {A : Type 0} (f t : A → Bool) (g : A → A) → ((x : A) → t x ≡ true → f x ≡ true → f (g x) ≡ true) → (xs : List A) → list_all f xs ≡ true → list_all f (update t g xs) ≡ true
+all_updated f t g s [] h = refl
+all_updated {A = A} f t g s (x ∷ xs) h =
+    let parts : (f x ≡ true) × (list_all f xs ≡ true) = and_parts (f x) (list_all f xs) h in
+    go (t x) refl parts.0 (all_updated f t g s xs parts.1)
+  where
+    go : (b : Bool) → t x ≡ b → f x ≡ true → list_all f (update t g xs) ≡ true → list_all f (cond b (g x) x ∷ update t g xs) ≡ true
+    go true e k ih = and_from (f (g x)) (list_all f (update t g xs)) (s x e k) ih
+    go false e k ih = and_from (f x) (list_all f (update t g xs)) k ih
+
+pub all_pushed : {A : Type 0} (f : A → Bool) (xs : List A) (y : A) → f y ≡ true → list_all f xs ≡ true → list_all f (xs ++ y ∷ []) ≡ true
+all_pushed f [] y k h = rw k refl
+all_pushed f (x ∷ xs) y k h =
+    let parts : (f x ≡ true) × (list_all f xs ≡ true) = and_parts (f x) (list_all f xs) h in
+    and_from (f x) (list_all f (xs ++ y ∷ [])) parts.0 (all_pushed f xs y k parts.1)

@@ -1,0 +1,6 @@
+use Rattle.std.proofs.Common.{◌≡◌, take, fold}
+use Rattle.jsp_model.specs.Changes.{cancel_one}
+use Rattle.jsp_requests.proofs.batch.accept_cancel_all.Given as goal
+
+abbrev pub invariant-leases : goal.invariant-leases
+invariant-leases l = l.state ≡ fold cancel_one l.initial.state (take l.lease-index l.leases)

@@ -1,0 +1,95 @@
+//! Setting the end of what has a lease.
+ghost use Rattle.std.specs.Prelude.{◌≡◌, map};
+ghost use Rattle.jsp_model.specs.Changes.{extend as extended};
+ghost use Rattle.jsp_requests.specs.Ending.{row_ending, registration_ending, transaction_ending, set_ending};
+
+use jsp_model::{MatchSet, Rank, Registration, Row, State, Transaction};
+
+/// What has this number ends then.
+pub(crate) fn extend(state: &mut State, end: u64, rank: Rank, number: u64)
+    ensures { state.new ≡ extended state.old end rank number }
+{
+    match rank {
+        Rank::Entry => {
+            let rows = &mut state.rows;
+            extend_rows(&mut rows.items, number, end);
+        }
+        Rank::Registration => {
+            let registrations = &mut state.registrations;
+            extend_registrations(&mut registrations.items, number, end);
+        }
+        Rank::Transaction => {
+            let transactions = &mut state.transactions;
+            extend_transactions(&mut transactions.items, number, end);
+        }
+        Rank::Blocked => {}
+        Rank::MatchSet => {
+            let sets = &mut state.sets;
+            extend_sets(&mut sets.items, number, end);
+        }
+    }
+}
+
+fn extend_rows(rows: &mut [Row], number: u64, end: u64)
+    ensures { rows.new ≡ map (row_ending number end) rows.old }
+{
+    'rows: for row in rows.iter_mut() {
+        extend_row(row, number, end);
+    }
+}
+
+fn extend_row(row: &mut Row, number: u64, end: u64)
+    ensures { row.new ≡ row_ending number end row.old }
+{
+    if row.number == number {
+        row.end = end;
+    }
+}
+
+fn extend_registrations(registrations: &mut [Registration], number: u64, end: u64)
+    ensures { registrations.new ≡ map (registration_ending number end) registrations.old }
+{
+    'registrations: for registration in registrations.iter_mut() {
+        extend_registration(registration, number, end);
+    }
+}
+
+fn extend_registration(registration: &mut Registration, number: u64, end: u64)
+    ensures { registration.new ≡ registration_ending number end registration.old }
+{
+    if registration.number == number {
+        registration.end = end;
+    }
+}
+
+fn extend_transactions(transactions: &mut [Transaction], number: u64, end: u64)
+    ensures { transactions.new ≡ map (transaction_ending number end) transactions.old }
+{
+    'transactions: for transaction in transactions.iter_mut() {
+        extend_transaction(transaction, number, end);
+    }
+}
+
+fn extend_transaction(transaction: &mut Transaction, number: u64, end: u64)
+    ensures { transaction.new ≡ transaction_ending number end transaction.old }
+{
+    if transaction.number == number {
+        transaction.end = end;
+    }
+}
+
+fn extend_sets(sets: &mut [MatchSet], number: u64, end: u64)
+    ensures { sets.new ≡ map (set_ending number end) sets.old }
+{
+    'sets: for set in sets.iter_mut() {
+        extend_set(set, number, end);
+    }
+}
+
+fn extend_set(set: &mut MatchSet, number: u64, end: u64)
+    ensures { set.new ≡ set_ending number end set.old }
+{
+    if set.number == number {
+        set.end = end;
+    }
+}

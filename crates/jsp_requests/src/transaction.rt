@@ -1,0 +1,125 @@
+//! Transactions as requests ask of them: beginning one, asking its commit, aborting it, its state; and
+//! resetting a space (Jini Transactions; reset is this profile's own).
+ghost use Rattle.std.specs.Prelude.{◌≡◌, ◌==◌, ◌&&◌, length, nat_le, if◌then◌else◌};
+ghost use Rattle.std.specs.List.{list_any};
+ghost use Rattle.jsp_types.specs.Tests.{first_that};
+ghost use Rattle.jsp_reply.specs.declared.reply.TxnState.TheVariants.{Active as active, Voting as voting};
+ghost use Rattle.jsp_model.specs.Lookup.{named as number_named, is_voting as votes};
+ghost use Rattle.jsp_model.specs.Refusals.{begin_tests, txn_tests, commit_tests, reset_tests, is_in_doubt as in_doubt, is_prepared as prepared};
+
+use crate::lease::grants_nothing;
+use jsp_model::{Joined, State, Transaction, Vote};
+use jsp_reply::{Refusal, TxnState};
+use jsp_state::{
+    crash_count, is_living, is_used_up, is_voting, named, place_of, space_named, waits_for_many,
+};
+
+/// How many transactions there may be in the whole house (this profile's own).
+const MOST_TRANSACTIONS: usize = 1_024;
+
+/// The last crash count (this profile's own).
+const LAST_CRASH_COUNT: u64 = (1 << 32) - 1;
+
+/// Why a transaction isn't begun, or nothing where it is.
+pub(crate) fn refuse_begin(state: &State, lease: &i64) -> Option<Refusal>
+    ensures { result ≡ first_that (begin_tests state.now lease.now) }
+{
+    if grants_nothing(lease) {
+        return Some(Refusal::BadLease);
+    }
+    if is_full(state) {
+        return Some(Refusal::TooMany);
+    }
+    if is_used_up(state, 1) {
+        return Some(Refusal::UsedUp);
+    }
+    None
+}
+
+fn is_full(state: &State) -> bool
+    ensures { result ≡ nat_le 1024 (length state.now.transactions) }
+{
+    MOST_TRANSACTIONS <= state.transactions.as_slice().len()
+}
+
+/// Why nothing is asked of a transaction: there is none of this number.
+pub(crate) fn refuse_transaction(state: &State, txn: &i64) -> Option<Refusal>
+    ensures { result ≡ first_that (txn_tests state.now txn.now) }
+{
+    if !is_living(state, named(*txn)) {
+        return Some(Refusal::UnknownTransaction);
+    }
+    None
+}
+
+/// Why a commit can't be asked, or nothing where it can.
+pub(crate) fn refuse_commit(state: &State, session: u64, txn: &i64) -> Option<Refusal>
+    ensures { result ≡ first_that (commit_tests state.now session txn.now) }
+{
+    let number = named(*txn);
+    if !is_living(state, number) {
+        return Some(Refusal::UnknownTransaction);
+    }
+    if is_voting(state, number) {
+        return Some(Refusal::NotActive);
+    }
+    if waits_for_many(state, session) {
+        return Some(Refusal::TooManyWaiting);
+    }
+    None
+}
+
+/// Whether the transaction is active, or its commit was asked.
+pub(crate) fn state_of(state: &State, txn: &i64) -> TxnState
+    ensures { result ≡ (if votes state.now (number_named txn.now) then voting else active) }
+{
+    if is_voting(state, named(*txn)) {
+        TxnState::Voting
+    } else {
+        TxnState::Active
+    }
+}
+
+/// Why a space isn't reset, or nothing where it is.
+pub(crate) fn refuse_reset(state: &State, space: &str) -> Option<Refusal>
+    ensures { result ≡ first_that (reset_tests state.now space.now) }
+{
+    if space_named(state, space).is_none() {
+        return Some(Refusal::UnknownSpace);
+    }
+    let place = place_of(state, space);
+    if is_in_doubt(state, place) {
+        return Some(Refusal::InDoubt);
+    }
+    if LAST_CRASH_COUNT <= crash_count(state, place) {
+        return Some(Refusal::UsedUp);
+    }
+    None
+}
+
+/// Whether a prepared vote of the space awaits its decision.
+fn is_in_doubt(state: &State, space: u64) -> bool
+    ensures { result ≡ in_doubt state.now space }
+{
+    state
+        .transactions
+        .as_slice()
+        .iter()
+        .any(|t| is_prepared_in(t, space))
+}
+
+fn is_prepared_in(transaction: &Transaction, space: u64) -> bool
+    ensures { result ≡ list_any (λ j. j.space == space && prepared j.vote) transaction.now.joined }
+{
+    transaction
+        .joined
+        .as_slice()
+        .iter()
+        .any(|j| j.space == space && is_prepared(j))
+}
+
+fn is_prepared(joined: &Joined) -> bool
+    ensures { result ≡ prepared joined.now.vote }
+{
+    matches!(joined.vote, Some(Vote::Prepared))
+}

@@ -1,0 +1,52 @@
+//! Numbers as requests and callers give them.
+ghost use Rattle.std.specs.Prelude.{◌≡◌, ◌≤◌};
+ghost use Rattle.jsp_model.specs.Lookup.{contains as has, is_caller as calls, named as number_named};
+ghost use Rattle.jsp_model.specs.Requests.{caller_of as transaction_named};
+ghost use Rattle.jsp_model.specs.Refusals.{is_used_up as lacks_numbers};
+
+use jsp_model::State;
+
+/// The last number that is drawn (this profile's own).
+const LAST_NUMBER: u64 = 1 << 62;
+
+/// Whether the number is among these.
+pub fn contains(numbers: &[u64], number: u64) -> bool
+    ensures { result ≡ has numbers.now number }
+{
+    numbers.iter().any(|n| *n == number)
+}
+
+/// The number that a request gives. Nothing has the number 0.
+pub fn named(number: i64) -> u64
+    ensures { result ≡ number_named number }
+{
+    if number < 0 {
+        return 0;
+    }
+    number as u64
+}
+
+/// The transaction under which a request is made, if it is made under one.
+pub fn caller_of(txn: Option<i64>) -> Option<u64>
+    ensures { result ≡ transaction_named txn }
+{
+    match txn {
+        None => None,
+        Some(number) => Some(named(number)),
+    }
+}
+
+/// Whether the caller is this transaction.
+pub fn is_caller(caller: Option<u64>, transaction: u64) -> bool
+    ensures { result ≡ calls caller transaction }
+{
+    caller == Some(transaction)
+}
+
+/// Whether so many numbers more can't be drawn.
+pub fn is_used_up(state: &State, count: u64) -> bool
+    requires { count ≤ 64 }
+    ensures { result ≡ lacks_numbers state.now count }
+{
+    LAST_NUMBER + 1 - count < state.next_number
+}

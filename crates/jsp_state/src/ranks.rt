@@ -1,0 +1,48 @@
+//! What a number names.
+ghost use Rattle.std.specs.Prelude.{◌≡◌, ◌==◌};
+ghost use Rattle.std.specs.List.{list_any};
+ghost use Rattle.jsp_model.specs.Lookup.{rank_of as rank_of_number};
+
+use crate::transactions::is_living;
+use jsp_model::{Rank, State};
+
+/// What the number names that has a lease: a row, a registration, a transaction or a match set.
+pub fn rank_of(state: &State, number: u64) -> Option<Rank>
+    ensures { result ≡ rank_of_number state.now number }
+{
+    if is_row(state, number) {
+        return Some(Rank::Entry);
+    }
+    if is_registration(state, number) {
+        return Some(Rank::Registration);
+    }
+    if is_living(state, number) {
+        return Some(Rank::Transaction);
+    }
+    if is_set(state, number) {
+        return Some(Rank::MatchSet);
+    }
+    None
+}
+
+fn is_row(state: &State, number: u64) -> bool
+    ensures { result ≡ list_any (λ r. r.number == number) state.now.rows }
+{
+    state.rows.as_slice().iter().any(|r| r.number == number)
+}
+
+fn is_registration(state: &State, number: u64) -> bool
+    ensures { result ≡ list_any (λ r. r.number == number) state.now.registrations }
+{
+    state
+        .registrations
+        .as_slice()
+        .iter()
+        .any(|r| r.number == number)
+}
+
+fn is_set(state: &State, number: u64) -> bool
+    ensures { result ≡ list_any (λ m. m.number == number) state.now.sets }
+{
+    state.sets.as_slice().iter().any(|m| m.number == number)
+}

@@ -1,0 +1,141 @@
+//! Sessions: which are open, what waits for their requests, opening and closing.
+ghost use Rattle.std.specs.Prelude.{◌≡◌, ◌==◌, ◌&&◌, not, nat_le, length, map, filter, OnOk, OnErr};
+ghost use Rattle.std.specs.List.{list_any};
+ghost use Rattle.jsp_model.specs.Lookup.{is_open as has_open, is_waiting as waits, waiting_count};
+ghost use Rattle.jsp_model.specs.Changes.{open_session, close as closed, set_version as with_version};
+ghost use Rattle.jsp_state.specs.Versions.{versioned};
+
+use jsp_model::{Blocked, Commit, MatchSet, Registration, Session, State};
+use jsp_types::NoMemory;
+use jsp_wire::Version;
+
+/// Whether the session is open.
+pub fn is_open(state: &State, session: u64) -> bool
+    ensures { result ≡ has_open state.now session }
+{
+    state
+        .sessions
+        .as_slice()
+        .iter()
+        .any(|k| k.number == session)
+}
+
+/// Whether the session's request of this id waits.
+pub fn is_waiting(state: &State, session: u64, id: u64) -> bool
+    ensures { result ≡ waits state.now session id }
+{
+    is_blocked(state.blocked.as_slice(), session, id)
+        || is_asked(state.commits.as_slice(), session, id)
+}
+
+fn is_blocked(blocked: &[Blocked], session: u64, id: u64) -> bool
+    ensures { result ≡ list_any (λ b. b.session == session && b.id == id) blocked.now }
+{
+    blocked.iter().any(|b| b.session == session && b.id == id)
+}
+
+fn is_asked(commits: &[Commit], session: u64, id: u64) -> bool
+    ensures { result ≡ list_any (λ c. c.session == session && c.id == id) commits.now }
+{
+    commits.iter().any(|c| c.session == session && c.id == id)
+}
+
+/// How many requests of a session may wait, blocked ones and unanswered commits (this profile's own).
+const MOST_WAITING: usize = 64;
+
+/// Whether as many of the session's requests wait as may.
+pub fn waits_for_many(state: &State, session: u64) -> bool
+    ensures { result ≡ nat_le 64 (waiting_count state.now session) }
+{
+    let blocked = count_blocked(state.blocked.as_slice(), session);
+    let commits = count_asked(state.commits.as_slice(), session);
+    MOST_WAITING <= blocked.saturating_add(commits)
+}
+
+fn count_blocked(blocked: &[Blocked], session: u64) -> usize
+    ensures { result ≡ length (filter (λ b. b.session == session) blocked.now) }
+{
+    blocked.iter().filter(|b| b.session == session).count()
+}
+
+fn count_asked(commits: &[Commit], session: u64) -> usize
+    ensures { result ≡ length (filter (λ c. c.session == session) commits.now) }
+{
+    commits.iter().filter(|c| c.session == session).count()
+}
+
+/// Opens a session, whole or not at all. Its line begins in version 1.
+pub fn open(state: &mut State, session: u64) -> Result<(), NoMemory>
+    ensures ok { OnOk result (state.new ≡ open_session state.old session) }
+    ensures err { OnErr result (state.new ≡ state.old) }
+{
+    state.sessions.push(Session {
+        number: session,
+        version: Version::One,
+    })?;
+    state.last_session = session;
+    Ok(())
+}
+
+/// Closes a session: its blocked requests, registrations and match sets go without answer. Rows,
+/// transactions and asked commits stay (this profile's own).
+pub fn close(state: &mut State, session: u64)
+    ensures { state.new ≡ closed state.old session }
+{
+    let sessions = &mut state.sessions;
+    drop_session(&mut sessions.items, session);
+    let blocked = &mut state.blocked;
+    drop_blocked(&mut blocked.items, session);
+    let registrations = &mut state.registrations;
+    drop_registrations(&mut registrations.items, session);
+    let sets = &mut state.sets;
+    drop_sets(&mut sets.items, session);
+}
+
+fn drop_session(sessions: &mut Vec<Session>, session: u64)
+    ensures { sessions.new.items ≡ filter (λ k. not (k.number == session)) sessions.old.items }
+{
+    sessions.retain(|k| !(k.number == session));
+}
+
+fn drop_blocked(blocked: &mut Vec<Blocked>, session: u64)
+    ensures { blocked.new.items ≡ filter (λ b. not (b.session == session)) blocked.old.items }
+{
+    blocked.retain(|b| !(b.session == session));
+}
+
+fn drop_registrations(registrations: &mut Vec<Registration>, session: u64)
+    ensures { registrations.new.items ≡ filter (λ r. not (r.session == session)) registrations.old.items }
+{
+    registrations.retain(|r| !(r.session == session));
+}
+
+fn drop_sets(sets: &mut Vec<MatchSet>, session: u64)
+    ensures { sets.new.items ≡ filter (λ m. not (m.session == session)) sets.old.items }
+{
+    sets.retain(|m| !(m.session == session));
+}
+
+/// The session's line has this version from now on (this profile's own).
+pub fn set_version(state: &mut State, session: u64, version: Version)
+    ensures { state.new ≡ with_version state.old session version }
+{
+    let sessions = &mut state.sessions;
+    set_versions(&mut sessions.items, session, version);
+}
+
+fn set_versions(sessions: &mut [Session], session: u64, version: Version)
+    ensures { sessions.new ≡ map (versioned session version) sessions.old }
+{
+    'sessions: for one in sessions.iter_mut() {
+        set_if_mine(one, session, version);
+    }
+}
+
+fn set_if_mine(one: &mut Session, session: u64, version: Version)
+    ensures { one.new ≡ versioned session version one.old }
+{
+    if one.number == session {
+        one.version = version;
+    }
+}

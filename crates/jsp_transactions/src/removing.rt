@@ -1,0 +1,57 @@
+//! What has an end goes. Nothing here takes memory.
+ghost use Rattle.std.specs.Prelude.{◌≡◌, ◌==◌, filter, not};
+ghost use Rattle.jsp_model.specs.Changes.{remove as removed};
+
+use crate::aborting::abort;
+use jsp_lease::Rank;
+use jsp_model::{Blocked, MatchSet, Registration, Row, State};
+
+/// What has this rank and number goes, since its lease ended or was cancelled or its time is up. A
+/// transaction aborts (Jini Leasing, Jini Transactions). Takes no memory.
+pub fn remove(state: &mut State, rank: Rank, number: u64)
+    ensures { state.new ≡ removed state.old rank number }
+{
+    match rank {
+        Rank::Entry => {
+            let rows = &mut state.rows;
+            drop_row(&mut rows.items, number);
+        }
+        Rank::Registration => {
+            let registrations = &mut state.registrations;
+            drop_registration(&mut registrations.items, number);
+        }
+        Rank::Transaction => abort(state, number),
+        Rank::Blocked => {
+            let blocked = &mut state.blocked;
+            drop_blocked(&mut blocked.items, number);
+        }
+        Rank::MatchSet => {
+            let sets = &mut state.sets;
+            drop_set(&mut sets.items, number);
+        }
+    }
+}
+
+fn drop_row(rows: &mut Vec<Row>, number: u64)
+    ensures { rows.new.items ≡ filter (λ r. not (r.number == number)) rows.old.items }
+{
+    rows.retain(|r| !(r.number == number));
+}
+
+fn drop_registration(registrations: &mut Vec<Registration>, number: u64)
+    ensures { registrations.new.items ≡ filter (λ r. not (r.number == number)) registrations.old.items }
+{
+    registrations.retain(|r| !(r.number == number));
+}
+
+fn drop_blocked(blocked: &mut Vec<Blocked>, number: u64)
+    ensures { blocked.new.items ≡ filter (λ b. not (b.number == number)) blocked.old.items }
+{
+    blocked.retain(|b| !(b.number == number));
+}
+
+fn drop_set(sets: &mut Vec<MatchSet>, number: u64)
+    ensures { sets.new.items ≡ filter (λ m. not (m.number == number)) sets.old.items }
+{
+    sets.retain(|m| !(m.number == number));
+}

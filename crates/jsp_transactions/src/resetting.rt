@@ -1,0 +1,62 @@
+//! A space is reset. Nothing here takes memory.
+ghost use Rattle.std.specs.Prelude.{◌≡◌, ◌==◌, ◌&&◌, ◌-◌, ◌^◌, nat_le, not, filter, is_some, IsTrue};
+ghost use Rattle.std.specs.List.{list_all};
+ghost use Rattle.jsp_model.specs.Changes.{reset as after_reset};
+ghost use Rattle.jsp_transactions.specs.Resetting.{counted};
+
+use jsp_model::{Blocked, MatchSet, Registration, Row, Space, State};
+
+/// The space starts anew, as after a crash (this profile's own): its rows, registrations and match
+/// sets go, and the requests under a transaction that wait there; those without one go on waiting.
+/// It counts the crash, so that it votes to abort where it had joined. Takes no memory. The caller's
+/// condition: each space counts fewer than 2^32 crashes.
+pub fn reset(state: &mut State, space: u64)
+    requires { IsTrue (list_all (λ p. nat_le p.crash_count (2 ^ 32 - 1)) state.old.spaces) }
+    ensures { state.new ≡ after_reset state.old space }
+{
+    let spaces = &mut state.spaces;
+    count_crash(&mut spaces.items, space);
+    let rows = &mut state.rows;
+    drop_rows(&mut rows.items, space);
+    let registrations = &mut state.registrations;
+    drop_registrations(&mut registrations.items, space);
+    let blocked = &mut state.blocked;
+    drop_blocked(&mut blocked.items, space);
+    let sets = &mut state.sets;
+    drop_sets(&mut sets.items, space);
+}
+
+fn count_crash(spaces: &mut [Space], space: u64)
+    requires { IsTrue (list_all (λ p. nat_le p.crash_count (2 ^ 32 - 1)) spaces.old) }
+    ensures { spaces.new ≡ counted space spaces.old }
+{
+    let place = space as usize;
+    if place < spaces.len() {
+        let found = &mut spaces[place];
+        found.crash_count += 1;
+    }
+}
+
+fn drop_rows(rows: &mut Vec<Row>, space: u64)
+    ensures { rows.new.items ≡ filter (λ r. not (r.space == space)) rows.old.items }
+{
+    rows.retain(|r| !(r.space == space));
+}
+
+fn drop_registrations(registrations: &mut Vec<Registration>, space: u64)
+    ensures { registrations.new.items ≡ filter (λ r. not (r.space == space)) registrations.old.items }
+{
+    registrations.retain(|r| !(r.space == space));
+}
+
+fn drop_blocked(blocked: &mut Vec<Blocked>, space: u64)
+    ensures { blocked.new.items ≡ filter (λ b. not (b.space == space && is_some b.transaction)) blocked.old.items }
+{
+    blocked.retain(|b| !(b.space == space && b.transaction.is_some()));
+}
+
+fn drop_sets(sets: &mut Vec<MatchSet>, space: u64)
+    ensures { sets.new.items ≡ filter (λ m. not (m.space == space)) sets.old.items }
+{
+    sets.retain(|m| !(m.space == space));
+}
