@@ -372,4 +372,3 @@ fn waiting_request(
         _ => Ok(None),
     }
 }
-

@@ -1,10 +1,12 @@
 //! Each call that takes memory, once, with memory to spare.
-ghost use Rattle.std.specs.Prelude.{◌≡◌, [], None};
-ghost use Rattle.jsp_model.specs.Refusals.{refusal as refusal_of};
+ghost use Rattle.std.specs.Prelude.{◌≡◌, ◌≤◌, ◌+◌, ◌-◌, ◌^◌, [], ℕ, map, nat_le, true, None, IsTrue};
+ghost use Rattle.std.specs.List.{list_all};
+ghost use Rattle.jsp_wire.specs.Limits.{has_fitting_parts};
+ghost use Rattle.jsp_model.specs.Limits.{are_rising, bearers};
+ghost use Rattle.jsp_model.specs.Requests.{rows_asked};
+ghost use Rattle.jsp_model.specs.Steps.{has_its_rows};
 
-use crate::{
-    accept, answer, answer_commit, refusal, refuse_under, request_for_rows, told_others,
-};
+use crate::{accept, answer, answer_commit, refusal, refuse_under, request_for_rows, told_others};
 use jsp_model::{Blocked, Commit, Form, Space, State};
 use jsp_reply::Reply;
 use jsp_types::{Classes, Items, NoMemory, Text};
@@ -77,31 +79,40 @@ fn what_waits_under_a_transaction_is_told(rt: HostRuntime) -> Result<(), Fail> {
     Ok(())
 }
 
-// A transaction is begun: what session 1 is answered.
-fn begins(alloc: Global, state: &mut State) -> Result<Option<Reply>, NoMemory>
-    requires time { state.old.time ≡ 0 }
-    requires next_number { state.old.next_number ≡ 1 }
-    requires spaces { state.old.spaces ≡ [] }
-    requires rows { state.old.rows ≡ [] }
-    requires registrations { state.old.registrations ≡ [] }
-    requires blocked { state.old.blocked ≡ [] }
-    requires transactions { state.old.transactions ≡ [] }
-    requires sets { state.old.sets ≡ [] }
+// Session 1 asks this: what it is answered.
+fn asks(alloc: Global, state: &mut State, ask: &Ask) -> Result<Option<Reply>, NoMemory>
+    requires time { state.old.time ≤ 2 ^ 62 }
+    requires numbers { state.old.next_number ≤ 2 ^ 62 + 1 }
+    requires rows { IsTrue (are_rising 0 state.old.next_number (map (λ r. r.number) state.old.rows)) }
+    requires transactions { IsTrue (are_rising 0 state.old.next_number (map (λ t. t.number) state.old.transactions)) }
+    requires sets { IsTrue (are_rising 0 state.old.next_number (map (λ m. m.number) state.old.sets)) }
+    requires crashes { IsTrue (list_all (λ p. nat_le p.crash_count (2 ^ 32 - 1)) state.old.spaces) }
+    requires bearers { (n : ℕ) → bearers state.old n ≤ 1 }
+    requires fits { IsTrue (has_fitting_parts ask.now) }
+    requires given { has_its_rows state.old 1 2 [] None (rows_asked ask.now) ≡ true }
 {
-    let ask = Ask::Txn { lease: 1000 };
-    if let Some(_) = refusal(alloc, state, 1, 2, &ask)? {
+    if let Some(_) = refusal(alloc, state, 1, 2, ask)? {
         return Ok(None);
     }
-    let reply = answer(alloc, state, 1, 2, &ask, &[])?;
-    accept(alloc, state, 1, 2, &ask, &[])?;
+    let reply = answer(alloc, state, 1, 2, ask, &[])?;
+    accept(alloc, state, 1, 2, ask, &[])?;
     Ok(reply)
 }
 
 #[test]
 fn a_transaction_is_begun(rt: HostRuntime) -> Result<(), Fail> {
     let mut state = empty(rt.alloc());
-    let reply = begins(rt.alloc(), &mut state)?;
-    assert!(rt; matches!(reply, Some(Reply::Leased { id: 2, lease: 1, ms: 1000 })));
+    let reply = asks(rt.alloc(), &mut state, &Ask::Txn { lease: 1000 })?;
+    assert!(rt;
+        matches!(
+            reply,
+            Some(Reply::Leased {
+                id: 2,
+                lease: 1,
+                ms: 1000
+            })
+        )
+    );
     assert_eq!(rt; state.transactions.as_slice().len(), 1);
     Ok(())
 }
@@ -115,15 +126,15 @@ fn search(alloc: Global) -> Result<Search, NoMemory> {
     })
 }
 
-// The end of a read, as it would wait.
-fn end_of_read(alloc: Global, state: &State) -> Result<Option<u64>, NoMemory>
-    requires { state.now.time ≡ 0 }
+// The end of what session 1 asks for, as it would wait.
+fn end_asked(alloc: Global, state: &State, ask: &Ask) -> Result<Option<u64>, NoMemory>
+    requires time { state.now.time ≤ 2 ^ 62 }
+    requires fits { IsTrue (has_fitting_parts ask.now) }
 {
-    let ask = Ask::Read(search(alloc)?);
-    if let Some(_) = refusal(alloc, state, 1, 2, &ask)? {
+    if let Some(_) = refusal(alloc, state, 1, 2, ask)? {
         return Ok(None);
     }
-    match request_for_rows(alloc, state, 1, 2, &ask)? {
+    match request_for_rows(alloc, state, 1, 2, ask)? {
         None => Ok(None),
         Some(blocked) => Ok(Some(blocked.end)),
     }
@@ -136,7 +147,8 @@ fn a_read_that_finds_nothing_would_wait(rt: HostRuntime) -> Result<(), Fail> {
         name: Text::from_str(rt.alloc(), "a")?,
         crash_count: 0,
     })?;
-    let end = end_of_read(rt.alloc(), &state)?;
+    let read = Ask::Read(search(rt.alloc())?);
+    let end = end_asked(rt.alloc(), &state, &read)?;
     assert_eq!(rt; end, Some(1000));
     Ok(())
 }

@@ -124,4 +124,3 @@ fn each_below_next(numbers: &[u64]) -> bool
         .zip(numbers.iter().skip(1))
         .all(|(number, next)| *number < *next)
 }
-

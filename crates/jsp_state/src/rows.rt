@@ -22,11 +22,7 @@ pub fn rows_in(state: &State, space: u64) -> usize
 }
 
 /// The entries of the rows of these numbers, by rising number.
-pub fn entries_of(
-    alloc: Global,
-    state: &State,
-    numbers: &[u64],
-) -> Result<Items<Entry>, NoMemory>
+pub fn entries_of(alloc: Global, state: &State, numbers: &[u64]) -> Result<Items<Entry>, NoMemory>
     ensures { IfOk result (λ es. es ≡ entries_at state.now numbers.now) }
 {
     entries_in(alloc, state.rows.as_slice(), numbers)

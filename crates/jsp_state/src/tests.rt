@@ -93,7 +93,10 @@ fn an_answer_is_handed_out(rt: HostRuntime) -> Result<(), Fail> {
 fn rows_are_chosen_and_shown(rt: HostRuntime) -> Result<(), Fail> {
     let mut state = empty(rt.alloc());
     let name = Text::from_string(String::new(rt.alloc()));
-    state.spaces.push(Space { name, crash_count: 1 })?;
+    state.spaces.push(Space {
+        name,
+        crash_count: 1,
+    })?;
     state.rows.push(row(rt.alloc(), 1))?;
     assert_eq!(rt; names_of(rt.alloc(), &state)?.as_slice().len(), 1);
     let blocked = two_of_any(rt.alloc())?;
