@@ -14,7 +14,7 @@ is_old() {
 
 if is_old; then
     log=$here/build.log
-    echo "jsp: building the program, and proving it: about 13 minutes the first time, on four cores ($log)" >&2
+    echo "jsp: building the program, and proving it: some 20 minutes the first time, on four cores ($log)" >&2
     if ! (cd "$folder" && rt run -- help </dev/null) >"$log" 2>&1; then
         tail -n 20 "$log" >&2
         echo "jsp: not built" >&2
