@@ -1,10 +1,12 @@
 #!/usr/bin/env bash
 # Runs the program with these arguments, this input and its own status. Where there is no program, or
-# a source is newer, it is built first: every crate is proved on the way.
+# a source is newer, it is built first: every crate is proved on the way. With --unproved before the
+# arguments it is compiled and run at once, with checks in place of proofs.
 set -euo pipefail
 here=$(cd "$(dirname "${BASH_SOURCE[0]}")" && pwd)
 folder=$here/crates/jsp_program
 program=$folder/out/jsp_program
+log=$here/build.log
 
 is_old() {
     [ ! -x "$program" ] && return
@@ -12,14 +14,61 @@ is_old() {
         \( -name '*.rt' -o -name '*.antt' -o -name crates.txt \) -newer "$program" -print -quit)" ]
 }
 
-if is_old; then
-    log=$here/build.log
+# Names each crate as the log of the build comes to it, and says how far it is in a large one. It ends with this
+# script, also where that is interrupted.
+tell_progress() {
+    local crates told=0 named checked last=
+    mapfile -t crates < <(sed -n 's/^\(jsp_[a-z]*\):.*/\1/p' "$here/crates.txt")
+    while sleep 1 && kill -0 $$ 2>/dev/null; do
+        mapfile -t named < <(sed -n 's/^rt: chose --jobs [0-9]* for //p' "$log")
+        for ((; told < ${#named[@]}; told++)); do
+            for place in "${!crates[@]}"; do
+                if [ "${crates[place]}" = "${named[told]}" ]; then
+                    echo "jsp: proving ${named[told]}, $((place + 1)) of ${#crates[@]} crates" >&2
+                fi
+            done
+        done
+        checked=$(sed -n 's/^so far: \([0-9]* of [0-9]* functions\) checked.*/\1/p' "$log" | tail -n 1)
+        if [ "$checked" != "$last" ]; then
+            last=$checked
+            echo "jsp:   $checked" >&2
+        fi
+    done
+}
+
+build() {
     echo "jsp: building the program, and proving it: some 20 minutes the first time, on four cores ($log)" >&2
-    if ! (cd "$folder" && rt run -- help </dev/null) >"$log" 2>&1; then
+    : >"$log"
+    tell_progress &
+    local teller=$! built=yes
+    (cd "$folder" && rt run -- help </dev/null) >"$log" 2>&1 || built=no
+    kill "$teller"
+    if [ "$built" = no ]; then
         tail -n 20 "$log" >&2
         echo "jsp: not built" >&2
         exit 1
     fi
     touch "$program"
+}
+
+# What the compiler itself says of a run that came to its end is left out.
+run_unproved() {
+    echo "jsp: nothing is proved of this run: the program is compiled with checks, which takes a minute" >&2
+    local said status=0
+    said=$(mktemp)
+    (cd "$folder" && rt try -- "$@") 2>"$said" || status=$?
+    if grep -q '^run=ended ' "$said"; then
+        grep -v '^checked: \|^races: \|^run=\|^interpreter: ' "$said" >&2 || true
+    else
+        cat "$said" >&2
+    fi
+    rm "$said"
+    exit "$status"
+}
+
+if [ "${1:-}" = --unproved ]; then
+    shift
+    run_unproved "$@"
 fi
+if is_old; then build; fi
 exec "$program" "$@"

@@ -8,8 +8,8 @@ generate.py prints NAME     prints the lines that it has to print, worked out by
 import random
 
 from scripts import (
-    BAD_JSON, BAD_REQUEST, SPACES, SPACES_ARE, TOO_LONG, Case, compact, declare, done, frame, granted, joined, main,
-    payload, reading, refused, search, shown, stream, write,
+    BAD_JSON, BAD_REQUEST, LEASE, SPACES, SPACES_ARE, TOO_LONG, Case, compact, declare, done, frame, granted, joined,
+    main, notify, on_transaction, payload, reading, refused, search, shown, stream, told, write,
 )
 
 
@@ -83,10 +83,13 @@ def changes(case):
     chance = random.Random(1)
     case.opens()
     for request in requests * 250:
-        data = bytearray(payload(request))
-        data[chance.randrange(len(data))] ^= chance.randrange(1, 256)
+        answer = None
+        while answer is None:
+            data = bytearray(payload(request))
+            data[chance.randrange(len(data))] ^= chance.randrange(1, 256)
+            answer = reading(bytes(data))
         case.brings(frame(bytes(data)) + frame(SPACES))
-        case.says(reading(bytes(data)))
+        case.says(answer)
         case.says(SPACES_ARE)
 
 
@@ -149,5 +152,94 @@ def far_row(case):
     case.asks(search(4, "take", "Job", {"k": 1001}), done(4))
 
 
+def waiting(case):
+    """64 requests wait in each of 16 sessions. A write for each answers them in the order in which they came."""
+    for _ in range(16):
+        case.opens()
+    case.asks(declare(1, "Job", {"k": "int"}), done(1))
+    waiters = [(session, number) for number in range(2, 66) for session in range(1, 17)]
+    for session, number in waiters:
+        case.sends(search(number, "take", "Job", {}, LEASE), session)
+    case.opens()
+    for k, (session, number) in enumerate(waiters):
+        case.sends(write(k, "Job", {"k": k}))
+        case.says(shown(number, "Job", {"k": k}), session)
+        case.says(granted(k, len(waiters) + 1 + k))
+
+
+def waiting_commits(case):
+    """A commit counts among the 64 requests of a session that may wait, until it is decided."""
+    case.opens()
+    case.asks(declare(1, "Job", {"k": "int"}), done(1))
+    for lease in (1, 2):
+        case.asks({"id": 2, "op": "txn", "lease": LEASE}, granted(2, lease))
+    for number in range(3, 66):
+        case.sends(search(number, "take", "Job", {"k": number}, LEASE))
+    case.sends(on_transaction(66, "commit", 1))
+    case.asks(search(67, "read", "Job", {}, LEASE), refused(67, 4))
+    case.asks(on_transaction(68, "commit", 2), refused(68, 4))
+    case.asks(on_transaction(69, "commit", 3), refused(69, 13))
+    case.asks(search(70, "read", "Job", {}), done(70))
+    case.settles()
+    case.says(done(66))
+    case.sends(search(71, "read", "Job", {}, LEASE))
+    case.asks(search(72, "take", "Job", {}, LEASE), refused(72, 4))
+    case.asks(write(73, "Job", {"k": 5}), granted(73, 67))
+    case.says(shown(5, "Job", {"k": 5}))
+    case.sends(search(74, "take", "Job", {}, LEASE))
+    case.asks(search(75, "take", "Job", {}, LEASE), refused(75, 4))
+
+
+def transactions(case):
+    """There are at most 1,024 transactions, voting ones among them."""
+    case.opens()
+    begin = {"id": 1, "op": "txn", "lease": LEASE}
+    for lease in range(1, 1025):
+        case.asks(begin, granted(1, lease))
+    case.asks(begin, refused(1, 17))
+    case.asks({"id": 2, "op": "cancel", "lease": 7}, done(2))
+    case.asks(begin, granted(1, 1025))
+    case.sends(on_transaction(3, "commit", 8))
+    case.asks(begin, refused(1, 17))
+    case.settles()
+    case.says(done(3))
+    case.asks(begin, granted(1, 1026))
+    case.asks(begin, refused(1, 17))
+
+
+def registrations(case):
+    """There are at most 4,096 registrations, and one write is told to each that matches, by number."""
+    case.opens()
+    case.asks(declare(1, "Job", {"k": "int"}), done(1))
+    case.asks(declare(2, "Rush", {}, "Job"), done(2))
+    for lease in range(1, 4097):
+        case.asks(notify(2, "Job" if lease > 4000 else "Rush", "h"), granted(2, lease))
+    case.asks(notify(3, "Job", "h"), refused(3, 17))
+    case.asks(write(4, "Job", {"k": 1}), granted(4, 4097))
+    for lease in range(4001, 4097):
+        case.says(told("h", lease, 1))
+    case.asks({"id": 5, "op": "cancel", "lease": 7}, done(5))
+    case.asks(notify(6, "Job", "h"), granted(6, 4098))
+    case.asks(notify(7, "Job", "h"), refused(7, 17))
+
+
+def handbacks(case):
+    """A handback has 256 bytes at most, as they are read, and comes back whole."""
+    case.opens()
+    case.asks(declare(1, "Job", {"k": "int"}), done(1))
+    for handback in ("x" * 257, "é" * 129, "\x00" * 257):
+        case.asks(notify(2, "Job", handback), refused(2, 2))
+    fitting = ["", "x" * 256, "é" * 128, "\x00" * 256, '"\\\n/' * 64]
+    for lease, handback in enumerate(fitting, 1):
+        case.asks(notify(3, "Job", handback), granted(3, lease))
+    for sequence in (1, 2):
+        case.asks(write(4, "Job", {"k": 1}), granted(4, len(fitting) + sequence))
+        for lease, handback in enumerate(fitting, 1):
+            case.says(told(handback, lease, sequence))
+
+
 if __name__ == "__main__":
-    main([pieces, prefixes, in_turn, lengths, nesting, changes, classes, batches, texts, far_row])
+    main([
+        pieces, prefixes, in_turn, lengths, nesting, changes, classes, batches, texts, far_row,
+        waiting, waiting_commits, transactions, registrations, handbacks,
+    ])

@@ -43,9 +43,15 @@ class Case:
     def says(self, answer, session=None):
         self.prints.append(f"{session or self.session} {compact(answer)}")
 
+    def sends(self, request, session=None):
+        self.script.append(f"send {session or self.session} {payload(request).decode()}")
+
     def asks(self, request, answer):
-        self.script.append(f"send {self.session} {payload(request).decode()}")
+        self.sends(request)
         self.says(answer)
+
+    def settles(self):
+        self.script.append("settle")
 
 
 def declare(number, name, fields, parent=None):
@@ -56,8 +62,21 @@ def write(number, name, fields):
     return {"id": number, "op": "write", "space": "a", "entry": {"class": name, "fields": fields}, "lease": LEASE}
 
 
-def search(number, op, name, fields):
-    return {"id": number, "op": op, "space": "a", "template": {"class": name, "fields": fields}, "timeout": 0}
+def search(number, op, name, fields, timeout=0):
+    return {"id": number, "op": op, "space": "a", "template": {"class": name, "fields": fields}, "timeout": timeout}
+
+
+def notify(number, name, handback):
+    template = {"class": name, "fields": {}}
+    return {"id": number, "op": "notify", "space": "a", "template": template, "lease": LEASE, "handback": handback}
+
+
+def told(handback, lease, sequence):
+    return {"event": {"handback": handback, "lease": lease, "seq": sequence}}
+
+
+def on_transaction(number, op, transaction):
+    return {"id": number, "op": op, "txn": transaction}
 
 
 def done(number):
@@ -104,7 +123,7 @@ def is_number(value):
 
 def reading(data):
     """The answer to what a change of one byte makes of spaces, renew, cancel_all, or a take by the null template,
-    where the spaces are empty."""
+    where the spaces are empty, or None where that would wait."""
     try:
         request = json.loads(data.decode(), parse_int=number_read)
     except ValueError:
@@ -121,8 +140,10 @@ def reading(data):
         if all(map(is_number, values[0])):
             return {"id": number, "ok": [{"lease": lease, "fault": 12} for lease in values[0]]}
     if operation in ("read", "take") and keys == ["space", "template", "timeout"]:
-        if isinstance(values[0], str) and values[1:] == [None, 0]:
-            return done(number) if values[0] in ("a", "b") else refused(number, 5)
+        if isinstance(values[0], str) and values[1] is None and is_number(values[2]):
+            if values[0] not in ("a", "b"):
+                return refused(number, 5)
+            return done(number) if values[2] == 0 else None
     return refused(number, 2)
 
 

@@ -4,6 +4,7 @@ ghost use Rattle.jsp_model.specs.Lookup.{empty};
 ghost use Rattle.jsp_model.specs.Answers.{said as said_by};
 ghost use Rattle.jsp_model.specs.Steps.{is_legal as legal, next};
 ghost use Rattle.jsp_model.specs.Runs.{IsRun, state_after, said_in, first_illegal};
+ghost use Rattle.jsp_laws.specs.Runs.{LawsOfRuns};
 ghost use Rattle.jsp_audit.specs.Replay.{FailsAt, StopsAt};
 
 use crate::applying::apply;
@@ -49,6 +50,9 @@ impl From<NoMemory> for ReplayFault {
 /// Ok exactly where they are a run, want of memory apart.
 pub fn replay(alloc: Global, config: &Config, steps: &[Step]) -> Result<Replayed, ReplayFault>
     ensures run { OnOk result (IsRun (empty config.now) steps.now) }
+    // So all laws of runs hold in what is accepted: no row is given to two takes, unless the first
+    // was aborted; each transaction ends once, and in all its spaces; and so on.
+    ensures laws { OnOk result (LawsOfRuns (empty config.now) steps.now) }
     ensures image { IfOk result (λ r. r.image ≡ state_after (empty config.now) steps.now) }
     ensures said { IfOk result (λ r. r.said.items ≡ said_in (empty config.now) steps.now) }
     ensures illegal { IfErr result (λ e. FailsAt e (first_illegal (empty config.now) steps.now)) }

@@ -1,130 +1,95 @@
--- What an act asks for hands nothing out, and is built.
-use Rattle.std.proofs.Common.{◌≡◌, ℕ, ◌^◌, inl, inr, Bool, true, false, List, [], ◌∷◌, ◌++◌, Option, Some, None, refl, ap, sym, ◌∙◌, subst}
-use Rattle.std.specs.Prelude.{map, filter, not, MatchBool, ◌&&◌, nat_lt, if◌then◌else◌, codes}
-use Rattle.std.specs.List.{list_any}
+-- What an act asks for hands nothing out.
+use Rattle.std.proofs.Common.{◌≡◌, ℕ, inl, inr, Bool, true, false, List, [], ◌∷◌, ◌++◌, None, refl, ap, ◌∙◌}
+use Rattle.std.specs.Prelude.{map, filter, not, MatchBool, if◌then◌else◌, option_to_list}
+use Rattle.std.specs.List.{list_any, list_all}
 use Rattle.std.proofs.lemmas.List.Elements.{filter-append}
-use Rattle.std.proofs.lemmas.List.Folds.{list_any-append, list_all-append}
-use Rattle.std.proofs.lemmas.Bool.{and_parts, and_from, or_parts}
-use Rattle.jsp_wire.specs.declared.ask.Request.{Request}
-use Rattle.jsp_wire.specs.Limits.{is_built, is_within_limits, within_limits, has_fitting_parts}
-use Rattle.jsp_wire.specs.Parts.{◌>>=◌, id_at, text_at}
-use Rattle.jsp_wire.specs.Operations.{ask_of}
-use Rattle.jsp_wire.specs.Reading.{Reading, request, bad_json, bad_request, reading, reading_of, request_of, request_or_fault, json_of}
+use Rattle.std.proofs.lemmas.List.Folds.{list_any-append}
+use Rattle.std.proofs.lemmas.Bool.{and_parts, or_parts}
+use Rattle.jsp_wire.specs.Reading.{Reading, request, bad_json, bad_request, reading}
 use Rattle.jsp_reply.specs.declared.refusal.Refusal.TheVariants.{TooLong}
 use Rattle.jsp_model.specs.declared.state.State.{State}
 use Rattle.jsp_model.specs.declared.step.Step.{Step}
 use Rattle.jsp_model.specs.declared.step.Step.TheVariants as step
 use Rattle.jsp_model.specs.declared.house.Input.TheVariants as input
 use Rattle.jsp_model.specs.Lookup.{is_open}
+use Rattle.jsp_model.specs.Settling.{settle_step}
 use Rattle.jsp_model.specs.House.{is_unasked, bare, own_of, accepts}
 use Rattle.jsp_model.proofs.Joining.{own_of-append}
-use Rattle.jsp_model.proofs.Waiting.{asks_built, all_built}
 use Rattle.jsp_drive.specs.declared.acts.Act.{Act}
 use Rattle.jsp_drive.specs.declared.acts.Act.TheVariants as act
 use Rattle.jsp_drive.specs.Heard.{heard, heard_as}
 use Rattle.jsp_drive.specs.Tie.{is_hand_out, asked_in, AsksBy, HearsPiece, Asks}
+use Rattle.jsp_drive.proofs.Turning.{is_turn, settles_turn}
 
--- ---- a request that was read is built
+-- ---- what an act asks for
 
-bound : {A B : Type 0} (P : B → Type 0) (o : Option A) (f : A → Option B) (y : B) → ((x : A) → f x ≡ Some y → P y) → (o >>= f) ≡ Some y → P y
-bound P (Some x) f y each is = each x is
-bound P None f y each is = cc (is)
+-- none of them hands out
+abbrev pub KeepAll : List Step → Type 0
+KeepAll steps = list_any is_hand_out steps ≡ false
 
-limits_built : (q r : Request) (b : Bool) → is_within_limits q ≡ b → (if b then Some q else None) ≡ Some r → is_built r.ask ≡ true
-limits_built q r true within is =
-    let same : q ≡ r = cc (is) in
-    let built = (and_parts (nat_lt q.id (2 ^ 63) && has_fitting_parts q.ask) (is_built q.ask) within).1 in
-    subst (λ (w : Request). is_built w.ask ≡ true) same built
-limits_built q r false within is = cc (is)
+keep_more : (x : Step) (xs : List Step) → is_hand_out x ≡ false → KeepAll xs → KeepAll (x ∷ xs)
+keep_more x xs one rest = rw one rest
 
-answer_built : (o : Option Request) (id : Option ℕ) (r : Request) → request_or_fault o id ≡ request r → o ≡ Some r
-answer_built (Some q) id r is = cc (is)
-answer_built None id r is = cc (is)
+maybe_step : (b : Bool) (x : Step) → is_hand_out x ≡ false → KeepAll (if b then x ∷ [] else [])
+maybe_step true x one = keep_more x [] one refl
+maybe_step false x one = refl
 
-reading_built : (payload : List ℕ) (r : Request) → reading payload ≡ request r → is_built r.ask ≡ true
-unfolding reading request_of
-reading_built payload r is =
-    elim (json_of payload) as (λ o. reading_of o ≡ request r → is_built r.ask ≡ true) [
-      | None ↦ λ e. cc (e)
-      | Some d ↦ λ e.
-          bound (λ (w : Request). is_built w.ask ≡ true) (id_at d)
-          (λ id. text_at (codes "op") d >>= (λ name. ask_of name d >>= (λ a. within_limits (record { id = id; ask = a })))) r
-          (λ id has_id. bound (λ (w : Request). is_built w.ask ≡ true) (text_at (codes "op") d)
-          (λ name. ask_of name d >>= (λ a. within_limits (record { id = id; ask = a }))) r
-          (λ name has_name. bound (λ (w : Request). is_built w.ask ≡ true) (ask_of name d)
-          (λ a. within_limits (record { id = id; ask = a })) r
-          (λ a has_ask. limits_built (record { id = id; ask = a }) r (is_within_limits (record { id = id; ask = a })) refl has_ask)
-          has_name)
-          has_id)
-          (answer_built (request_of d) (id_at d) r e)
-    ] is
+heard_keeps : (s : ℕ) (r : Reading) → is_hand_out (heard_as s r) ≡ false
+heard_keeps s (request r) = refl
+heard_keeps s bad_json = refl
+heard_keeps s (bad_request id) = refl
 
--- ---- plain steps
+heards_keep : (s : ℕ) (payloads : List (List ℕ)) → KeepAll (map (heard s) payloads)
+heards_keep s [] = refl
+heards_keep s (p ∷ ps) = keep_more (heard s p) (map (heard s) ps) (heard_keeps s (reading p)) (heards_keep s ps)
 
--- none hands out, and all are built
-pub record ArePlain (steps : List Step) : Type 0 where
-  pub keep : list_any is_hand_out steps ≡ false
-  pub built : all_built steps ≡ true
+as_kept : (xs ys : List Step) → xs ≡ ys → KeepAll ys → KeepAll xs
+as_kept xs ys is h = ap (list_any is_hand_out) is ∙ h
 
-no_steps : ArePlain []
-no_steps = record { keep = refl; built = refl }
+abbrev too_long : ℕ → List Step
+too_long s = step.Fault s None TooLong ∷ []
 
-record IsPlain (x : Step) : Type 0 where
-  keeps : is_hand_out x ≡ false
-  is_built : asks_built x ≡ true
+long_keeps : (s : ℕ) (payloads : List (List ℕ)) → KeepAll (map (heard s) payloads ++ too_long s)
+long_keeps s payloads = list_any-append is_hand_out (map (heard s) payloads) (too_long s) ∙ rw (heards_keep s payloads) refl
 
-plain_more : (x : Step) (xs : List Step) → IsPlain x → ArePlain xs → ArePlain (x ∷ xs)
-plain_more x xs one rest = record { keep = rw one.keeps rest.keep; built = and_from (asks_built x) (all_built xs) one.is_built rest.built }
-
-one_step : (x : Step) → IsPlain x → ArePlain (x ∷ [])
-one_step x one = plain_more x [] one no_steps
-
-maybe_step : (b : Bool) (x : Step) → IsPlain x → ArePlain (if b then x ∷ [] else [])
-maybe_step true x one = one_step x one
-maybe_step false x one = no_steps
-
-heard_plain_at : (s : ℕ) (payload : List ℕ) (r : Reading) → reading payload ≡ r → IsPlain (heard_as s r)
-heard_plain_at s payload (request r) is = record { keeps = refl; is_built = reading_built payload r is }
-heard_plain_at s payload bad_json is = record { keeps = refl; is_built = refl }
-heard_plain_at s payload (bad_request id) is = record { keeps = refl; is_built = refl }
-
-heards_plain : (s : ℕ) (payloads : List (List ℕ)) → ArePlain (map (heard s) payloads)
-heards_plain s [] = no_steps
-heards_plain s (p ∷ ps) = plain_more (heard s p) (map (heard s) ps) (heard_plain_at s p (reading p) refl) (heards_plain s ps)
-
-plain-append : (xs ys : List Step) → ArePlain xs → ArePlain ys → ArePlain (xs ++ ys)
-plain-append xs ys p q = record {
-  keep = list_any-append is_hand_out xs ys ∙ rw p.keep q.keep;
-  built = list_all-append asks_built xs ys ∙ rw p.built q.built;
-}
-
-as_plain : (xs ys : List Step) → xs ≡ ys → ArePlain ys → ArePlain xs
-as_plain xs ys is h = subst ArePlain (sym is) h
-
-abbrev too_long : ℕ → Step
-too_long s = step.Fault s None TooLong
-
-asks_by_plain : (s : ℕ) (payloads : List (List ℕ)) (rest : List ℕ) (asked : List Step) (stays : Bool) → AsksBy s payloads rest asked stays → ArePlain asked
-asks_by_plain s payloads rest asked stays h =
+asks_by_keep : (s : ℕ) (payloads : List (List ℕ)) (rest : List ℕ) (asked : List Step) (stays : Bool) → AsksBy s payloads rest asked stays → KeepAll asked
+asks_by_keep s payloads rest asked stays h =
     elim h [
-      | inl e ↦ as_plain asked (map (heard s) payloads) e.0 (heards_plain s payloads)
-      | inr e ↦ as_plain asked (map (heard s) payloads ++ too_long s ∷ []) e.0
-          (plain-append (map (heard s) payloads) (too_long s ∷ []) (heards_plain s payloads) (one_step (too_long s) (record { keeps = refl; is_built = refl })))
+      | inl e ↦ as_kept asked (map (heard s) payloads) e.0 (heards_keep s payloads)
+      | inr e ↦ as_kept asked (map (heard s) payloads ++ too_long s) e.0 (long_keeps s payloads)
     ]
 
-piece_plain : (b : Bool) (s : ℕ) (bytes : List ℕ) (asked : List Step) (new : State) (before after : ℕ → List ℕ) (Others : Type 0)
-    → MatchBool b (HearsPiece s bytes asked new before after) ((asked ≡ []) × Others) → ArePlain asked
-piece_plain true s bytes asked new before after Others h = asks_by_plain s h.hears.payloads h.hears.rest asked (is_open new s) h.hears.asks
-piece_plain false s bytes asked new before after Others h = as_plain asked [] h.0 no_steps
+piece_keeps : (b : Bool) (s : ℕ) (bytes : List ℕ) (asked : List Step) (new : State) (before after : ℕ → List ℕ) (Others : Type 0)
+    → MatchBool b (HearsPiece s bytes asked new before after) ((asked ≡ []) × Others) → KeepAll asked
+piece_keeps true s bytes asked new before after Others h = asks_by_keep s h.hears.payloads h.hears.rest asked (is_open new s) h.hears.asks
+piece_keeps false s bytes asked new before after Others h = as_kept asked [] h.0 refl
 
--- what an act asks for
-pub asks_plain : (a : Act) (old : State) (asked : List Step) (new : State) (before after : ℕ → List ℕ) → Asks a old asked new before after → ArePlain asked
-asks_plain (act.Open s) old asked new before after h =
-    as_plain asked _ h.0 (maybe_step (accepts old (input.Open s)) (step.Open s) (record { keeps = refl; is_built = refl }))
-asks_plain (act.Piece s bytes) old asked new before after h = piece_plain (is_open old s) s bytes.items asked new before after _ h
-asks_plain (act.Shut s) old asked new before after h =
-    as_plain asked _ h.0 (maybe_step (is_open old s) (step.Shut s) (record { keeps = refl; is_built = refl }))
-asks_plain (act.Clock t) old asked new before after h = as_plain asked _ h.0 (one_step (step.Clock t) (record { keeps = refl; is_built = refl }))
+turn_keeps : (x : Step) → is_turn x ≡ true → is_hand_out x ≡ false
+turn_keeps (step.Vote x space) h = refl
+turn_keeps (step.Decide x commits) h = refl
+turn_keeps (step.HandOut s n) h = cc (h)
+turn_keeps (step.Open s) h = refl
+turn_keeps (step.Shut s) h = refl
+turn_keeps (step.Clock t) h = refl
+turn_keeps (step.Ask s a ns) h = refl
+turn_keeps (step.Fault s id r) h = refl
+turn_keeps (step.Grant n ns) h = refl
+turn_keeps (step.Empty n) h = refl
+turn_keeps (step.Tell n) h = refl
+turn_keeps (step.Due item) h = refl
+
+turns_keep : (xs : List Step) → list_all is_turn xs ≡ true → KeepAll xs
+turns_keep [] h = refl
+turns_keep (x ∷ xs) h =
+    let parts = and_parts (is_turn x) (list_all is_turn xs) h in
+    keep_more x xs (turn_keeps x parts.0) (turns_keep xs parts.1)
+
+pub asks_keep : (a : Act) (old : State) (asked : List Step) (new : State) (before after : ℕ → List ℕ) → Asks a old asked new before after → KeepAll asked
+asks_keep (act.Open s) old asked new before after h = as_kept asked _ h.0 (maybe_step (accepts old (input.Open s)) (step.Open s) refl)
+asks_keep (act.Piece s bytes) old asked new before after h = piece_keeps (is_open old s) s bytes.items asked new before after _ h
+asks_keep (act.Shut s) old asked new before after h = as_kept asked _ h.0 (maybe_step (is_open old s) (step.Shut s) refl)
+asks_keep (act.Clock t) old asked new before after h = as_kept asked (step.Clock t ∷ []) h.0 refl
+asks_keep act.Settle old asked new before after h = as_kept asked (option_to_list (settle_step old)) h.0 (turns_keep (option_to_list (settle_step old)) (settles_turn old))
 
 -- ---- what was asked for, but for what is handed out
 
@@ -139,8 +104,8 @@ no_hands (x ∷ xs) h =
     rw parts.0 (ap (λ w. x ∷ w) (no_hands xs parts.1))
 
 -- nothing is handed out
-pub asked_in_plain : (xs : List Step) → ArePlain (own_of xs) → asked_in xs ≡ own_of xs
-asked_in_plain xs h = no_hands (own_of xs) h.keep
+pub asked_in_kept : (xs : List Step) → KeepAll (own_of xs) → asked_in xs ≡ own_of xs
+asked_in_kept xs h = no_hands (own_of xs) h
 
 free_keeps : (x : Step) → is_unasked x ≡ true → is_hand_out x ≡ false
 free_keeps (step.Open s) h = refl

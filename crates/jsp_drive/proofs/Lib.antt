@@ -1,4 +1,8 @@
 pub mod Asking
+pub mod Quieting
+pub mod Turning
+pub mod Silence
+pub mod Stopping
 pub mod Serving
 pub mod Performing
 pub mod Sending

@@ -1,5 +1,5 @@
 -- The steps of a closing.
-use Rattle.std.proofs.Common.{◌≡◌, ℕ, Bool, true, false, List, [], ◌∷◌, None, refl, ap, sym, ◌∙◌}
+use Rattle.std.proofs.Common.{◌≡◌, ℕ, Bool, true, false, List, [], ◌∷◌, ◌++◌, None, refl, ap, sym, ◌∙◌}
 use Rattle.std.specs.Prelude.{if◌then◌else◌}
 use Rattle.std.specs.HashMap.{HashMap}
 use Rattle.jsp_frame.specs.Unframer.{Incoming}
@@ -9,7 +9,9 @@ use Rattle.jsp_model.specs.declared.step.Step.TheVariants as step
 use Rattle.jsp_model.specs.Lookup.{is_open}
 use Rattle.jsp_model.specs.Due.{due}
 use Rattle.jsp_model.specs.Runs.{state_after}
-use Rattle.jsp_model.specs.House.{Makes, own_of, shuts}
+use Rattle.jsp_model.specs.Quiet.{are_quiet}
+use Rattle.jsp_model.specs.Touches.{touches}
+use Rattle.jsp_model.specs.House.{Makes, own_of, touched, shuts}
 use Rattle.jsp_model.proofs.Closing.{shut_step}
 use Rattle.jsp_model.proofs.Ends.{due_shut}
 use Rattle.jsp_drive.specs.declared.acts.Act.TheVariants as act
@@ -31,6 +33,15 @@ closed_at : (b : Bool) (s : ℕ) (old new : State) → is_open old s ≡ b → s
 closed_at true s old new is view = ap (λ (w : State). is_open w s) (sym view) ∙ shut_step old s
 closed_at false s old new is view = ap (λ (w : State). is_open w s) (sym view) ∙ is
 
+-- to close touches nothing
+shut_touches : (st : State) (s : ℕ) → touches st (step.Shut s) ≡ []
+unfolding touches
+shut_touches st s = refl
+
+touched_at : (b : Bool) (s : ℕ) (st : State) → touched st (if b then step.Shut s ∷ [] else []) ≡ []
+touched_at true s st = ap (λ w. w ++ []) (shut_touches st s)
+touched_at false s st = refl
+
 module _ {S : Type 0} where
   -- the session's line is dropped, and it is closed
   pub shut_made : (s : ℕ) (old new : State) (log log' : List Step) (lines lines' : Lines S) → SetsLine s [] lines lines' → Makes old new log log' (shuts old s)
@@ -40,5 +51,7 @@ module _ {S : Type 0} where
     makes = makes;
     asks = (own_at (is_open old s) s, closed_at (is_open old s) s old new refl makes.view, dropped.here, dropped.others);
     nothing_due = due_at (is_open old s) s old new makes.view;
+    quiet = λ steady. ap (are_quiet new) (touched_at (is_open old s) s old);
+    settled = tt;
     are_lines = dropped.lines;
   }

@@ -15,12 +15,15 @@ use Rattle.jsp_model.specs.declared.house.Input.{Input}
 use Rattle.jsp_model.specs.declared.house.Input.TheVariants as input
 use Rattle.jsp_model.specs.Lookup.{is_open}
 use Rattle.jsp_model.specs.Due.{due}
-use Rattle.jsp_model.specs.House.{Makes, own_of, accepts, step_of}
+use Rattle.jsp_model.specs.Quiet.{are_quiet}
+use Rattle.jsp_model.specs.House.{Makes, own_of, touched, accepts, step_of}
 use Rattle.jsp_model.proofs.Joining.{Makes-none, Makes-then, own_of-append}
 use Rattle.jsp_model.proofs.Closing.{too_long_run}
+use Rattle.jsp_quiet.specs.Steady.{IsSteady}
 use Rattle.jsp_drive.specs.Heard.{heard}
 use Rattle.jsp_drive.specs.Lines.{longest, IsLine}
 use Rattle.jsp_drive.specs.Calls.{ActsOn, Serves}
+use Rattle.jsp_drive.proofs.Quieting.{acts_undecided, quiet_then}
 
 -- so far the frames of these payloads were acted
 pub record Serving (s : ℕ) (old now : State) (before log : List Step) (bytes : List ℕ) (line : Incoming) : Type 0 where
@@ -30,6 +33,7 @@ pub record Serving (s : ℕ) (old now : State) (before log : List Step) (bytes :
   pub own : own_of steps ≡ map (heard s) payloads
   pub split : SplitsInto longest bytes payloads line.rest
   pub nothing_due : due old ≡ None → due now ≡ None
+  pub quiet : IsSteady old → are_quiet now (touched old steps) ≡ true
   pub is_line : IsLine line
 
 pub serving_start : (s : ℕ) (st : State) (log : List Step) (line : Incoming) → IsLine line → Serving s st st log log line.rest line
@@ -40,6 +44,7 @@ serving_start s st log line h = record {
   own = refl;
   split = SplitsInto-nil longest line.rest;
   nothing_due = λ e. e;
+  quiet = λ steady. refl;
   is_line = h;
 }
 
@@ -62,13 +67,20 @@ cuts_off old new payload h a = record {
   is_line = record { phase = ap (λ (u : Incoming). u.phase) a.2 ∙ h.phase; limit = ap (λ (u : Incoming). u.limit) a.2 ∙ h.limit };
 }
 
+-- what was touched before stays quiet
+quiet_on : (old mid now : State) (before log after steps : List Step) (x : Input) (a : ActsOn mid now log after x) → accepts mid x ≡ true
+    → Makes old mid before log steps → (IsSteady old → are_quiet mid (touched old steps) ≡ true) → IsSteady old → are_quiet now (touched old (steps ++ a.steps)) ≡ true
+quiet_on old mid now before log after steps x a live makes quiet steady =
+    quiet_then old mid now before log after steps a.steps steady makes a.makes (acts_undecided x a.steps (acted_one mid now log after x a live)) (quiet steady) a.quiet
+
 pub serving_more : (s : ℕ) (old mid now : State) (before log after : List Step) (bytes : List ℕ) (line line' : Incoming) (payload : Vec ℕ Global) (x : Input)
     → Serving s old mid before log bytes line → is_open mid s ≡ true → Answers line (cut.Frame payload) line'
     → ActsOn mid now log after x → accepts mid x ≡ is_open mid s → step_of x ≡ heard s payload.items
     → Serving s old now before after bytes line'
 serving_more s old mid now before log after bytes line line' payload x h live answers acts accepted is =
     let off = cuts_off line line' payload h.is_line answers in
-    let one : own_of acts.steps ≡ heard s payload.items ∷ [] = acted_one mid now log after x acts (accepted ∙ live) ∙ ap (λ w. w ∷ []) is in
+    let taken : accepts mid x ≡ true = accepted ∙ live in
+    let one : own_of acts.steps ≡ heard s payload.items ∷ [] = acted_one mid now log after x acts taken ∙ ap (λ w. w ∷ []) is in
     record {
       payloads = h.payloads ++ payload.items ∷ [];
       steps = h.steps ++ acts.steps;
@@ -77,6 +89,7 @@ serving_more s old mid now before log after bytes line line' payload x h live an
           ∙ sym (map-append (heard s) h.payloads (payload.items ∷ []));
       split = SplitsInto-frame longest bytes h.payloads line.rest payload.items line'.rest h.split off.begins;
       nothing_due = λ e. acts.nothing_due;
+      quiet = quiet_on old mid now before log after h.steps x acts taken h.makes h.quiet;
       is_line = off.is_line;
     }
 
@@ -100,6 +113,7 @@ serves_more s old now before log bytes line first line' from h a =
       split = rw (← from, ← rest) h.split;
       asks = inl (h.own, λ live. unfinished);
       nothing_due = h.nothing_due;
+      quiet = h.quiet;
       goes_on = λ live. rw a.2 h.is_line;
     }
 
@@ -114,6 +128,7 @@ serves_closed s old now before log first line h closed =
       split = h.split;
       asks = inl (h.own, λ live. absurd (cc (live, closed)));
       nothing_due = h.nothing_due;
+      quiet = h.quiet;
       goes_on = λ live. absurd (cc (live, closed));
     }
 
@@ -140,5 +155,6 @@ serves_long s old mid now before log after first line line' h live a acts =
         closed,
       );
       nothing_due = λ e. acts.nothing_due;
+      quiet = quiet_on old mid now before log after h.steps (input.Fault s None TooLong) acts live h.makes h.quiet;
       goes_on = λ open'. absurd (cc (open', closed));
     }

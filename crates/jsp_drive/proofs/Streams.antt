@@ -1,9 +1,10 @@
 -- A session asks by its whole stream, in whatever pieces it came.
 use Rattle.std.proofs.Common.{◌≡◌, ℕ, ◌+◌, ◌≤◌, Bool, true, false, List, [], ◌∷◌, ◌++◌, None, Vec, Global, eqb, refl, ap, sym, ◌∙◌, subst, arith, append_assoc, inl, inr}
-use Rattle.std.specs.Prelude.{map, filter, MatchBool, ◌⊎◌, if◌then◌else◌}
+use Rattle.std.specs.Prelude.{map, filter, MatchBool, ◌⊎◌, if◌then◌else◌, option_to_list}
+use Rattle.std.specs.List.{list_all}
 use Rattle.std.proofs.lemmas.List.{append-nil, map-append}
 use Rattle.std.proofs.lemmas.List.Elements.{filter-append}
-use Rattle.std.proofs.lemmas.Bool.{eq-eqb, eqb-true}
+use Rattle.std.proofs.lemmas.Bool.{and_parts, eq-eqb, eqb-true}
 use Rattle.jsp_frame.specs.Stream.{SplitsInto, IsUnfinished}
 use Rattle.jsp_frame.proofs.Streams.{SplitsInto-nil, SplitsInto-append, SplitsInto-join}
 use Rattle.jsp_wire.specs.Reading.{Reading, request, bad_json, bad_request, reading}
@@ -14,6 +15,7 @@ use Rattle.jsp_model.specs.declared.step.Step.TheVariants as step
 use Rattle.jsp_model.specs.declared.house.Input.TheVariants as input
 use Rattle.jsp_model.specs.Lookup.{empty, is_open}
 use Rattle.jsp_model.specs.Runs.{state_after}
+use Rattle.jsp_model.specs.Settling.{settle_step}
 use Rattle.jsp_model.specs.House.{accepts}
 use Rattle.jsp_model.proofs.Joining.{state_after-append}
 use Rattle.jsp_model.proofs.Sessions.{Numbered, IsPast, Rises, rises_run, numbered_at_first}
@@ -25,6 +27,7 @@ use Rattle.jsp_drive.specs.Lines.{longest}
 use Rattle.jsp_drive.specs.Tie.{asked_in, AsksBy, Hears, HearsPiece, Asks, Tied}
 use Rattle.jsp_drive.specs.Streams.{brings, stream_of, is_request_of, requests_of, AsksByStream, AskByStreams}
 use Rattle.jsp_drive.proofs.Asking.{asked_in-append}
+use Rattle.jsp_drive.proofs.Turning.{is_turn, settles_turn}
 
 -- ---- whose requests they are
 
@@ -73,6 +76,27 @@ none_mine s t ps rest asked stays apart h =
 maybe_none : (s : ℕ) (b : Bool) (x : Step) → is_request_of s x ≡ false → of s (if b then x ∷ [] else []) ≡ []
 maybe_none s true x h = rw h refl
 maybe_none s false x h = refl
+
+-- a settle turn is no one's request
+turn_none : (s : ℕ) (x : Step) → is_turn x ≡ true → is_request_of s x ≡ false
+turn_none s (step.Vote x space) h = refl
+turn_none s (step.Decide x commits) h = refl
+turn_none s (step.Ask t a ns) h = cc (h)
+turn_none s (step.Fault t id r) h = cc (h)
+turn_none s (step.Open t) h = refl
+turn_none s (step.Shut t) h = refl
+turn_none s (step.Clock t) h = refl
+turn_none s (step.Grant n ns) h = refl
+turn_none s (step.Empty n) h = refl
+turn_none s (step.Tell n) h = refl
+turn_none s (step.Due item) h = refl
+turn_none s (step.HandOut t n) h = refl
+
+turns_none : (s : ℕ) (xs : List Step) → list_all is_turn xs ≡ true → of s xs ≡ []
+turns_none s [] h = refl
+turns_none s (x ∷ xs) h =
+    let parts = and_parts (is_turn x) (list_all is_turn xs) h in
+    rw (turn_none s x parts.0) (turns_none s xs parts.1)
 
 -- ---- what an act is to a session
 
@@ -133,6 +157,8 @@ turn s (act.Open t) st asked new before after h =
     inr (record { brings_is = refl; nothing = ap (of s) h.0 ∙ maybe_none s (accepts st (input.Open t)) (step.Open t) refl; stays = λ e. h.1 s; none = λ e. h.1 s ∙ e })
 turn s (act.Clock t) st asked new before after h =
     inr (record { brings_is = refl; nothing = ap (of s) h.0; stays = λ e. h.1 s; none = λ e. h.1 s ∙ e })
+turn s act.Settle st asked new before after h =
+    inr (record { brings_is = refl; nothing = ap (of s) h.0 ∙ turns_none s (option_to_list (settle_step st)) (settles_turn st); stays = λ e. h.1 s; none = λ e. h.1 s ∙ e })
 turn s (act.Shut t) st asked new before after h = inr (shut_turn (eqb t s) s t st asked new before after refl h)
 turn s (act.Piece t bytes) st asked new before after h = piece_turn (eqb t s) (is_open st t) s t bytes st asked new before after refl refl h
 

@@ -16,6 +16,7 @@ use Rattle.jsp_model.specs.declared.state.Outbox.{Outbox}
 use Rattle.jsp_model.specs.declared.step.Step.{Step}
 use Rattle.jsp_model.specs.Lookup.{contains, empty, is_open}
 use Rattle.jsp_model.specs.Due.{due}
+use Rattle.jsp_model.specs.Quiet.{are_quiet}
 use Rattle.jsp_model.specs.Steps.{is_rising}
 use Rattle.jsp_model.specs.Outboxes.{outbox_of}
 use Rattle.jsp_model.specs.Runs.{is_run, IsRun, state_after, said_to}
@@ -23,16 +24,20 @@ use Rattle.jsp_model.specs.House.{own_of, touched}
 use Rattle.jsp_model.specs.Limits.{are_outboxes}
 use Rattle.jsp_model.proofs.Joining.{IsRun-append, Makes-then, said_to-append}
 use Rattle.jsp_model.proofs.Outboxes.{answers_in, are_above, rising_of, outboxes_run}
-use Rattle.jsp_model.proofs.Waiting.{NothingWaits, nothing_at_first, run_keeps, all_quiet}
+use Rattle.jsp_model.proofs.Sessions.{IsPast, rises_run}
 use Rattle.jsp_model.proofs.Ends.{due_at_first, due_outboxes}
 use Rattle.jsp_drive.specs.declared.acts.Act.{Act}
 use Rattle.jsp_drive.specs.declared.acts.Act.TheVariants as act
 use Rattle.jsp_drive.specs.declared.acts.Sent.{Sent}
 use Rattle.jsp_drive.specs.Heard.{framed}
 use Rattle.jsp_drive.specs.Lines.{AreLines, pending, rest_of}
-use Rattle.jsp_drive.specs.Tie.{is_hand_out, asked_in, HearsPiece, Asks, frame_for, Part, Tied, bytes_to}
+use Rattle.jsp_drive.specs.Tie.{is_hand_out, asked_in, HearsPiece, Asks, QuietsFirst, frame_for, Part, Tied, bytes_to}
 use Rattle.jsp_drive.specs.Calls.{Performs, frames_sent, Sends}
-use Rattle.jsp_drive.proofs.Asking.{asks_plain, asked_in-append, asked_in_plain, hand_own}
+use Rattle.jsp_quiet.specs.Steady.{IsSteady}
+use Rattle.jsp_quiet.proofs.Steady.{steady_empty, steady_run}
+use Rattle.jsp_drive.proofs.Asking.{asks_keep, asked_in-append, asked_in_kept, hand_own}
+use Rattle.jsp_drive.proofs.Quieting.{touched-append, quiet_outboxes, are_quiet_outboxes}
+use Rattle.jsp_drive.proofs.Silence.{said_past, none_at_first, above_none}
 
 -- ---- what is sent at an act
 
@@ -82,14 +87,15 @@ frames_by_session n told (b ∷ boxes) h = rw h.0 (ap (λ w. frames_sent n b ++ 
 
 -- ---- the part of an act
 
--- between two acts nothing lies in an outbox, nothing is due and nothing waits
+-- between two acts nothing lies in an outbox and nothing is due; the state is steady, and no session has the number 0
 pub record Between (st : State) : Type 0 where
   pub empty : st.outboxes ≡ []
   pub nothing_due : due st ≡ None
-  pub nothing_waits : NothingWaits st
+  pub steady : IsSteady st
+  pub past : IsPast 0 st
 
 pub between_at_first : (names : List (List ℕ)) → Between (empty names)
-between_at_first names = record { empty = refl; nothing_due = due_at_first names; nothing_waits = nothing_at_first names }
+between_at_first names = record { empty = refl; nothing_due = due_at_first names; steady = steady_empty names; past = none_at_first names }
 
 -- outboxes don't matter to what an act asks for
 piece_sent : (b : Bool) (s : ℕ) (bytes : List ℕ) (asked : List Step) (new : State) (before after : ℕ → List ℕ) (Others : Type 0)
@@ -102,6 +108,15 @@ asks_sent (act.Open s) old asked new before after h = h
 asks_sent (act.Piece s bytes) old asked new before after h = piece_sent (is_open old s) s bytes.items asked new before after _ h
 asks_sent (act.Shut s) old asked new before after h = h
 asks_sent (act.Clock t) old asked new before after h = h
+asks_sent act.Settle old asked new before after h = h
+
+-- nor to what is quiet
+quiets_sent : (a : Act) (old new : State) → QuietsFirst a old new → QuietsFirst a old (record new { outboxes = [] })
+quiets_sent (act.Open s) old new h = tt
+quiets_sent (act.Piece s bytes) old new h = tt
+quiets_sent (act.Shut s) old new h = tt
+quiets_sent (act.Clock t) old new h = tt
+quiets_sent act.Settle old new h = λ none p first. quiet_outboxes new [] p ∙ h none p first
 
 abbrev Lines : Type 0 → Type 0
 Lines S = HashMap ℕ Incoming S
@@ -109,19 +124,21 @@ Lines S = HashMap ℕ Incoming S
 -- before what is said is handed out
 pub record Said (st mid : State) (steps : List Step) : Type 0 where
   pub rising : are_outboxes mid.outboxes ≡ true
+  pub from_one : are_above 0 mid.outboxes ≡ true
   pub waits : (s : ℕ) → outbox_of mid s ≡ said_to s st steps
-  pub nothing_waits : NothingWaits mid
 
 module _ {S : Type 0} where
   pub said_by : (a : Act) (st mid : State) (log log' : List Step) (lines lines' : Lines S) (p : Performs a st mid log log' lines lines') → Between st → Said st mid p.steps
   said_by a st mid log log' lines lines' p b =
-      let plain = asks_plain a st (own_of p.steps) mid (pending lines) (pending lines') p.asks in
-      let keeps : list_any is_hand_out p.steps ≡ false = sym (hand_own p.steps) ∙ plain.keep in
+      let kept = asks_keep a st (own_of p.steps) mid (pending lines) (pending lines') p.asks in
+      let keeps : list_any is_hand_out p.steps ≡ false = sym (hand_own p.steps) ∙ kept in
       let run = outboxes_run st p.steps (ap are_outboxes b.empty) keeps in
+      let rising : are_outboxes mid.outboxes ≡ true = ap (λ (w : State). are_outboxes w.outboxes) (sym p.makes.view) ∙ run.0 in
+      let waits = λ (s : ℕ). ap (λ (w : State). outbox_of w s) (sym p.makes.view) ∙ run.1 s ∙ ap (λ w. answers_in w s ++ said_to s st p.steps) b.empty in
       record {
-        rising = ap (λ (w : State). are_outboxes w.outboxes) (sym p.makes.view) ∙ run.0;
-        waits = λ s. ap (λ (w : State). outbox_of w s) (sym p.makes.view) ∙ run.1 s ∙ ap (λ w. answers_in w s ++ said_to s st p.steps) b.empty;
-        nothing_waits = subst NothingWaits p.makes.view (run_keeps st p.steps b.nothing_waits plain.built);
+        rising = rising;
+        from_one = above_none mid.outboxes rising (waits 0 ∙ said_past 0 st p.steps p.makes.run b.past);
+        waits = waits;
       }
 
   pub record Acted (n : ℕ) (act : Act) (st now : State) (log log' : List Step) (lines lines' : Lines S) (sent sent' : List Sent) : Type 0 where
@@ -141,13 +158,16 @@ module _ {S : Type 0} where
       let part = p.steps ++ q.steps in
       let makes = Makes-then st mid now log log' log'' p.steps q.steps p.makes q.makes in
       let said = said_by a st mid log log' lines lines' p b in
-      let plain = asks_plain a st (own_of p.steps) mid (pending lines) (pending lines') p.asks in
-      let asked : asked_in part ≡ own_of p.steps = asked_in-append p.steps q.steps ∙ ap (λ w. asked_in p.steps ++ w) q.nothing_asked ∙ append-nil (asked_in p.steps) ∙ asked_in_plain p.steps plain in
+      let kept = asks_keep a st (own_of p.steps) mid (pending lines) (pending lines') p.asks in
+      let asked : asked_in part ≡ own_of p.steps = asked_in-append p.steps q.steps ∙ ap (λ w. asked_in p.steps ++ w) q.nothing_asked ∙ append-nil (asked_in p.steps) ∙ asked_in_kept p.steps kept in
       let says = λ (s : ℕ). said_to-append s st p.steps q.steps ∙ ap (λ (w : State). said_to s st p.steps ++ said_to s w q.steps) p.makes.view ∙ ap (λ w. said_to s st p.steps ++ w) (q.silent s) ∙ append-nil (said_to s st p.steps) in
       let told = λ (s : ℕ). says s ∙ sym (said.waits s) in
       let empty : now.outboxes ≡ [] = ap (λ (w : State). w.outboxes) q.new_is in
       let none_due : due now ≡ None = ap due q.new_is ∙ due_outboxes mid [] ∙ p.nothing_due b.nothing_due in
-      let nothing : NothingWaits now = subst NothingWaits (sym q.new_is) (record { blocked = said.nothing_waits.blocked; registrations = said.nothing_waits.registrations }) in
+      let touched_all : touched st part ≡ touched st p.steps =
+      touched-append st p.steps q.steps ∙ ap (λ (w : State). touched st p.steps ++ touched w q.steps) p.makes.view ∙ ap (λ w. touched st p.steps ++ w) q.untouched ∙ append-nil (touched st p.steps) in
+      let quiet : are_quiet now (touched st p.steps) ≡ true =
+      ap (λ (w : State). are_quiet w (touched st p.steps)) q.new_is ∙ are_quiet_outboxes mid [] (touched st p.steps) ∙ p.quiet b.steady in
       record {
         part = part;
         frames = flat_map (frames_sent n) mid.outboxes;
@@ -158,7 +178,8 @@ module _ {S : Type 0} where
           run = makes.run;
           asks = rw (asked, makes.view, q.new_is) (asks_sent a st (own_of p.steps) mid (pending lines) (pending lines') p.asks);
           nothing_due = ap due makes.view ∙ none_due;
-          quiet = all_quiet (state_after st part) (touched st part) (subst NothingWaits (sym makes.view) nothing);
+          quiet = rw (makes.view, touched_all) quiet;
+          settled = rw (makes.view, q.new_is) (quiets_sent a st mid p.settled);
           handed_out = ap (λ (w : State). w.outboxes) makes.view ∙ empty;
           outgoing = record {
             to = sessions mid.outboxes;
@@ -167,7 +188,12 @@ module _ {S : Type 0} where
             others = λ s out. told s ∙ none_waits s mid.outboxes out;
           };
         };
-        between = record { empty = empty; nothing_due = none_due; nothing_waits = nothing };
+        between = record {
+          empty = empty;
+          nothing_due = none_due;
+          steady = subst IsSteady makes.view (steady_run st part makes.run b.steady);
+          past = subst (λ (w : State). IsPast 0 w) makes.view ((rises_run st part makes.run).past 0 b.past);
+        };
         are_lines = p.are_lines;
       }
 

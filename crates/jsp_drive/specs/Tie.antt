@@ -1,5 +1,5 @@
 -- How acts, steps and frames are tied.
-use Rattle.std.specs.Prelude.{ℕ, ◌≡◌, ◌+◌, ◌==◌, Bool, true, false, not, List, [], ◌∷◌, ◌++◌, None, map, flat_map, filter, ◌⊎◌, if◌then◌else◌, MatchBool, IsTrue}
+use Rattle.std.specs.Prelude.{ℕ, ◌≡◌, ◌+◌, ◌==◌, Bool, true, false, not, List, [], ◌∷◌, ◌++◌, Some, None, map, option_to_list, flat_map, filter, ◌⊎◌, if◌then◌else◌, MatchBool, IsTrue}
 use Rattle.jsp_frame.specs.Stream.{SplitsInto, IsUnfinished, IsTooLong}
 use Rattle.jsp_reply.specs.declared.refusal.Refusal.TheVariants.{TooLong}
 use Rattle.jsp_reply.specs.declared.reply.Reply.{Reply}
@@ -9,7 +9,8 @@ use Rattle.jsp_model.specs.declared.step.Step.TheVariants as step
 use Rattle.jsp_model.specs.declared.house.Input.TheVariants as input
 use Rattle.jsp_model.specs.Lookup.{empty, is_open, contains}
 use Rattle.jsp_model.specs.Due.{due}
-use Rattle.jsp_model.specs.Quiet.{are_quiet}
+use Rattle.jsp_model.specs.Quiet.{is_quiet, are_quiet}
+use Rattle.jsp_model.specs.Settling.{settle_step, first_unquiet}
 use Rattle.jsp_model.specs.Steps.{is_rising}
 use Rattle.jsp_model.specs.Runs.{IsRun, state_after, said_to}
 use Rattle.jsp_model.specs.House.{own_of, touched, accepts, shuts}
@@ -56,6 +57,7 @@ Asks (act.Piece s bytes) old asked new before after =
     MatchBool (is_open old s) (HearsPiece s bytes.items asked new before after) ((asked ≡ []) × Same before after)
 Asks (act.Shut s) old asked new before after = (asked ≡ shuts old s) × (is_open new s ≡ false) × (after s ≡ []) × SameBut s before after
 Asks (act.Clock t) old asked new before after = (asked ≡ step.Clock t ∷ []) × Same before after
+Asks act.Settle old asked new before after = (asked ≡ option_to_list (settle_step old)) × Same before after
 
 -- ---- what is sent at an act
 
@@ -69,6 +71,14 @@ pub record Outgoing (n : ℕ) (st : State) (part : List Step) (sent : List Sent)
   pub frames : sent ≡ flat_map (λ s. map (frame_for n s) (said_to s st part)) to
   pub others : (s : ℕ) → contains to s ≡ false → said_to s st part ≡ []
 
+-- ---- what a settle turn leaves
+
+-- At a settle turn where no transaction votes, the first space that wasn't quiet before is quiet after it. Of other acts
+-- nothing is said here.
+abbrev pub QuietsFirst : Act → State → State → Type 0
+QuietsFirst act.Settle old new = settle_step old ≡ None → (p : ℕ) → first_unquiet old ≡ Some p → IsTrue (is_quiet new p)
+QuietsFirst _ old new = Unit {0}
+
 -- ---- the parts
 
 -- the part of a run that an act makes
@@ -77,6 +87,7 @@ pub record Part (n : ℕ) (act : Act) (st : State) (before after : ℕ → List 
   pub asks : Asks act st (asked_in part) (state_after st part) before after
   pub nothing_due : due (state_after st part) ≡ None
   pub quiet : IsTrue (are_quiet (state_after st part) (touched st part))
+  pub settled : QuietsFirst act st (state_after st part)
   pub handed_out : (state_after st part).outboxes ≡ []
   pub outgoing : Outgoing n st part sent
 

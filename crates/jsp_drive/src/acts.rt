@@ -18,6 +18,10 @@ pub enum Act {
     Shut { session: u64 },
     /// A reading of the clock, in milliseconds.
     Clock { time: u64 },
+    /// A settle turn: the next vote or the decision of the transaction whose commit was asked
+    /// first. Where none votes, the first space that isn't quiet, in the configured order, is made
+    /// quiet.
+    Settle,
 }
 
 /// A frame that is sent to a session at an act. Acts are counted from 0.

@@ -1,13 +1,15 @@
 //! Runs acts on any house: bytes of clients in, frames of answers out.
 //!
-//! An act opens or shuts a session, brings a piece of its bytes, or reads the clock. `drive` makes
-//! the house's steps for each act, and then sends what they say. Its contract (`specs/Tie.antt`):
-//! the steps are one legal run from the empty state, cut into a part for each act. A part was asked
-//! for by the act alone: its own step, or one request or fault for each frame that its bytes
-//! complete. At its end nothing is due, what it touched is quiet, and all that it said is sent, by
-//! session number. So each session asks by its whole stream, however that was cut into pieces
-//! (`specs/Streams.antt`), and is sent the frames of what that run says to it, in order, and all of
-//! them. All this holds for every house that keeps the contract of `House`.
+//! An act opens or shuts a session, brings a piece of its bytes, reads the clock, or is a settle
+//! turn. `drive` makes the house's steps for each act, and then sends what they say. Its contract
+//! (`specs/Tie.antt`): the steps are one legal run from the empty state, cut into a part for each
+//! act. A part was asked for by the act alone: its own step, one request or fault for each frame
+//! that its bytes complete, or the next vote or decision. At its end nothing is due, what it touched
+//! is quiet, and all that it said is sent, by session number. A settle turn at which no transaction
+//! votes leaves quiet the first space that wasn't. So each session asks by its whole stream, however
+//! that was cut into pieces (`specs/Streams.antt`), and is sent the frames of what that run says to
+//! it, in order, and all of them. In that run all laws of jsp_laws hold. All this holds for every
+//! house that keeps the contract of `House`.
 #![tactic(auto)]
 
 mod acts;
@@ -17,6 +19,7 @@ mod perform;
 mod run;
 mod send;
 mod serve;
+mod stop;
 
 pub use acts::{Act, Driven, Sent};
 pub use run::drive;

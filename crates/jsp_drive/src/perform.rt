@@ -1,12 +1,13 @@
 //! Makes the steps that an act asks for.
-ghost use Rattle.std.specs.Prelude.{OnOk};
+ghost use Rattle.std.specs.Prelude.{◌≡◌, None, OnOk};
 ghost use Rattle.jsp_drive.specs.Lines.{AreLines};
-ghost use Rattle.jsp_drive.specs.Calls.{Performs};
+ghost use Rattle.jsp_drive.specs.Calls.{Performs, Turns};
 ghost use Rattle.jsp_drive.specs.declared.acts.Act.TheVariants as act_of;
 
 use crate::acts::Act;
 use crate::lines::{Lines, drop_line, put_line, take_line};
 use crate::serve::{act_on, serve};
+use crate::stop::no_memory;
 use jsp_model::{House, Input, Step};
 use jsp_types::NoMemory;
 use std::alloc::Global;
@@ -19,14 +20,17 @@ pub(crate) fn perform<H: House>(
     act: &Act,
     steps: &mut Vec<Step>,
 ) -> Result<(), NoMemory>
-    requires { AreLines lines.old }
-    ensures { OnOk result (Performs act.now (H.view house.old) (H.view house.new) steps.old.items steps.new.items lines.old lines.new) }
+    requires lines { AreLines lines.old }
+    requires bound { H.bound_of house.old ≡ None }
+    ensures bound { H.bound_of house.new ≡ H.bound_of house.old }
+    ensures performs { OnOk result (Performs act.now (H.view house.old) (H.view house.new) steps.old.items steps.new.items lines.old lines.new) }
 {
     match act {
         Act::Open { session } => act_on(house, Input::Open { session: *session }, steps),
         Act::Piece { session, bytes } => piece(alloc, house, lines, *session, bytes, steps),
         Act::Shut { session } => shut(house, lines, *session, steps),
         Act::Clock { time } => act_on(house, Input::Clock { time: *time }, steps),
+        Act::Settle => settle(house, steps),
     }
 }
 
@@ -38,8 +42,10 @@ fn piece<H: House>(
     bytes: &Vec<u8>,
     steps: &mut Vec<Step>,
 ) -> Result<(), NoMemory>
-    requires { AreLines lines.old }
-    ensures { OnOk result (Performs (act_of.Piece session bytes.now) (H.view house.old) (H.view house.new) steps.old.items steps.new.items lines.old lines.new) }
+    requires lines { AreLines lines.old }
+    requires bound { H.bound_of house.old ≡ None }
+    ensures bound { H.bound_of house.new ≡ H.bound_of house.old }
+    ensures performs { OnOk result (Performs (act_of.Piece session bytes.now) (H.view house.old) (H.view house.new) steps.old.items steps.new.items lines.old lines.new) }
 {
     if !house.is_open(session) {
         return Ok(());
@@ -60,10 +66,22 @@ fn shut<H: House>(
     steps: &mut Vec<Step>,
 ) -> Result<(), NoMemory>
     requires { AreLines lines.old }
-    ensures { OnOk result (Performs (act_of.Shut session) (H.view house.old) (H.view house.new) steps.old.items steps.new.items lines.old lines.new) }
+    ensures bound { H.bound_of house.new ≡ H.bound_of house.old }
+    ensures performs { OnOk result (Performs (act_of.Shut session) (H.view house.old) (H.view house.new) steps.old.items steps.new.items lines.old lines.new) }
 {
     steps.reserve(1)?;
     drop_line(lines, session);
     house.shut(session, steps);
     Ok(())
+}
+
+fn settle<H: House>(house: &mut H, steps: &mut Vec<Step>) -> Result<(), NoMemory>
+    requires bound { H.bound_of house.old ≡ None }
+    ensures bound { H.bound_of house.new ≡ H.bound_of house.old }
+    ensures turns { OnOk result (Turns (H.view house.old) (H.view house.new) steps.old.items steps.new.items) }
+{
+    match house.settle(steps) {
+        Ok(_) => Ok(()),
+        Err(stopped) => Err(no_memory(stopped)),
+    }
 }

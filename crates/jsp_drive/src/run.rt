@@ -1,7 +1,8 @@
 //! Runs the acts.
-ghost use Rattle.std.specs.Prelude.{◌≡◌, ℕ, flat_map, IfOk};
+ghost use Rattle.std.specs.Prelude.{◌≡◌, ℕ, None, flat_map, IfOk};
 ghost use Rattle.jsp_model.specs.Lookup.{empty};
 ghost use Rattle.jsp_model.specs.Runs.{IsRun, said_to};
+ghost use Rattle.jsp_laws.specs.Runs.{LawsOfRuns};
 ghost use Rattle.jsp_drive.specs.Heard.{framed};
 ghost use Rattle.jsp_drive.specs.Streams.{AskByStreams};
 ghost use Rattle.jsp_drive.specs.Tie.{IsTied, bytes_to};
@@ -14,8 +15,8 @@ use jsp_types::NoMemory;
 use std::alloc::Global;
 use std::collections::HashMap;
 
-/// Runs acts on an empty house of this config. After each act all answers are handed out, by
-/// session number.
+/// Runs acts on an empty house of this config, whose log has no bound. After each act all answers
+/// are handed out, by session number.
 ///
 /// `NoMemory` is answered only where a growth was refused, here or in the house; the house is gone
 /// then, and so is what was made.
@@ -25,9 +26,13 @@ pub fn drive<H: House>(
     config: &Config,
     acts: &[Act],
 ) -> Result<Driven, NoMemory>
-    requires { H.view house ≡ empty config.now }
+    requires view { H.view house ≡ empty config.now }
+    requires bound { H.bound_of house ≡ None }
     // The steps are one legal run from the empty state.
     ensures run { IfOk result (λ d. IsRun (empty config.now) d.steps.items) }
+    // So all laws of runs hold in them: no row is given to two takes, unless the first was aborted;
+    // each transaction ends once, and in all its spaces; events are numbered 1, 2, 3; and so on.
+    ensures laws { IfOk result (λ d. LawsOfRuns (empty config.now) d.steps.items) }
     // They are cut into a part for each act, which belongs to it, and so is what is sent.
     ensures tied { IfOk result (λ d. IsTied config.now acts.now d.steps.items d.sent.items) }
     // Each session asks by its whole stream, in whatever pieces it came.
@@ -44,7 +49,8 @@ fn drive_all<H: House>(
     config: &Config,
     acts: &[Act],
 ) -> Result<Driven, NoMemory>
-    requires { H.view house ≡ empty config.now }
+    requires view { H.view house ≡ empty config.now }
+    requires bound { H.bound_of house ≡ None }
     ensures { IfOk result (λ d. IsTied config.now acts.now d.steps.items d.sent.items) }
 {
     let mut house = house;

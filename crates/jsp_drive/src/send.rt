@@ -1,11 +1,13 @@
 //! What was said is handed out and sent.
-ghost use Rattle.std.specs.Prelude.{◌≡◌, ◌++◌, map, IfOk, OnOk, IsTrue};
+ghost use Rattle.std.specs.Prelude.{◌≡◌, ◌++◌, None, map, IfOk, OnOk, IsTrue};
 ghost use Rattle.jsp_model.specs.Limits.{are_outboxes};
+ghost use Rattle.jsp_model.proofs.Outboxes.{are_above};
 ghost use Rattle.jsp_drive.specs.Heard.{framed};
 ghost use Rattle.jsp_drive.specs.Tie.{frame_for};
 ghost use Rattle.jsp_drive.specs.Calls.{Sends};
 
 use crate::acts::Sent;
+use crate::stop::no_memory;
 use jsp_frame::frame;
 use jsp_model::{House, Step};
 use jsp_reply::{Said, text};
@@ -49,13 +51,16 @@ pub(crate) fn send_all<H: House>(
     steps: &mut Vec<Step>,
     sent: &mut Vec<Sent>,
 ) -> Result<(), NoMemory>
-    requires { IsTrue (are_outboxes (H.view house.old).outboxes) }
-    ensures { OnOk result (Sends act (H.view house.old) (H.view house.new) steps.old.items steps.new.items sent.old.items sent.new.items) }
+    requires rising { IsTrue (are_outboxes (H.view house.old).outboxes) }
+    requires from_one { IsTrue (are_above 0 (H.view house.old).outboxes) }
+    requires bound { H.bound_of house.old ≡ None }
+    ensures bound { H.bound_of house.new ≡ H.bound_of house.old }
+    ensures sends { OnOk result (Sends act (H.view house.old) (H.view house.new) steps.old.items steps.new.items sent.old.items sent.new.items) }
 {
-    'sessions: while let Some(session) = house.first_waiting() {
+    'sessions: while let Some(session) = house.next_waiting(0) {
         match house.hand_out(session, u64::MAX, steps) {
             Ok(answers) => send_to(alloc, act, session, answers.as_slice(), sent)?,
-            Err(_) => return Err(NoMemory),
+            Err(stopped) => return Err(no_memory(stopped)),
         }
     }
     Ok(())

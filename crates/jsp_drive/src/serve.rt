@@ -1,10 +1,11 @@
 //! A session's frames are acted one after another.
-ghost use Rattle.std.specs.Prelude.{OnOk, IsTrue};
+ghost use Rattle.std.specs.Prelude.{◌≡◌, None, OnOk, IsTrue};
 ghost use Rattle.jsp_model.specs.House.{is_input};
 ghost use Rattle.jsp_drive.specs.Lines.{IsLine};
 ghost use Rattle.jsp_drive.specs.Calls.{ActsOn, Serves};
 
 use crate::hear::hear;
+use crate::stop::no_memory;
 use jsp_frame::{Cut, Unframer};
 use jsp_model::{House, Input, Step};
 use jsp_reply::Refusal;
@@ -17,12 +18,14 @@ pub(crate) fn act_on<H: House>(
     input: Input,
     steps: &mut Vec<Step>,
 ) -> Result<(), NoMemory>
-    requires { IsTrue (is_input input) }
-    ensures { OnOk result (ActsOn (H.view house.old) (H.view house.new) steps.old.items steps.new.items input) }
+    requires input { IsTrue (is_input input) }
+    requires bound { H.bound_of house.old ≡ None }
+    ensures bound { H.bound_of house.new ≡ H.bound_of house.old }
+    ensures acts { OnOk result (ActsOn (H.view house.old) (H.view house.new) steps.old.items steps.new.items input) }
 {
     match house.act(input, steps) {
         Ok(()) => Ok(()),
-        Err(_) => Err(NoMemory),
+        Err(stopped) => Err(no_memory(stopped)),
     }
 }
 
@@ -34,8 +37,10 @@ pub(crate) fn serve<H: House>(
     line: &mut Unframer,
     steps: &mut Vec<Step>,
 ) -> Result<(), NoMemory>
-    requires { IsLine line.old }
-    ensures { OnOk result (Serves session (H.view house.old) (H.view house.new) steps.old.items steps.new.items line.old line.new) }
+    requires line { IsLine line.old }
+    requires bound { H.bound_of house.old ≡ None }
+    ensures bound { H.bound_of house.new ≡ H.bound_of house.old }
+    ensures serves { OnOk result (Serves session (H.view house.old) (H.view house.new) steps.old.items steps.new.items line.old line.new) }
 {
     'frames: while house.is_open(session) {
         match line.next()? {

@@ -106,3 +106,42 @@ too_long_at false s id st x xs is own rest =
 pub too_long_run : (s : ℕ) (id : Option ℕ) (st : State) (xs : List Step) → own_of xs ≡ step.Fault s id TooLong ∷ [] → is_open (state_after st xs) s ≡ false
 too_long_run s id st [] own = cc (own)
 too_long_run s id st (x ∷ xs) own = too_long_at (is_unasked x) s id st x xs refl own (λ o. too_long_run s id (next st x) xs o)
+
+-- ---- the spaces
+
+granted_spaces : (st : State) (n : ℕ) (ns : List ℕ) (b : Option Blocked) → (after_grant st n ns b).spaces ≡ st.spaces
+granted_spaces st n ns None = refl
+granted_spaces st n ns (Some b) = refl
+
+removed_spaces : (st : State) (r : Rank) (n : ℕ) → (remove st r n).spaces ≡ st.spaces
+removed_spaces st rank.Entry n = refl
+removed_spaces st rank.Registration n = refl
+removed_spaces st rank.Transaction n = refl
+removed_spaces st rank.Blocked n = refl
+removed_spaces st rank.MatchSet n = refl
+
+-- a step that nobody asked for resets no space
+free_spaces : (st : State) (x : Step) → is_unasked x ≡ true → (next st x).spaces ≡ st.spaces
+unfolding next
+free_spaces st (step.Grant n ns) h = granted_spaces st n ns (blocked_of st n)
+free_spaces st (step.Empty n) h = refl
+free_spaces st (step.Tell n) h = refl
+free_spaces st (step.Due item) h = removed_spaces st item.rank item.number
+free_spaces st (step.Open s) h = cc (h)
+free_spaces st (step.Shut s) h = cc (h)
+free_spaces st (step.Clock t) h = cc (h)
+free_spaces st (step.Ask s asked ns) h = cc (h)
+free_spaces st (step.Fault s id r) h = cc (h)
+free_spaces st (step.Vote x space) h = cc (h)
+free_spaces st (step.Decide x commits) h = cc (h)
+free_spaces st (step.HandOut s n) h = cc (h)
+
+free_run_spaces_at : (b : Bool) (st : State) (x : Step) (xs : List Step) → is_unasked x ≡ b → own_of (x ∷ xs) ≡ []
+    → (own_of xs ≡ [] → (state_after (next st x) xs).spaces ≡ (next st x).spaces) → (state_after st (x ∷ xs)).spaces ≡ st.spaces
+free_run_spaces_at true st x xs is own rest = rest (sym (own_step true x xs is) ∙ own) ∙ free_spaces st x is
+free_run_spaces_at false st x xs is own rest = cc (own_step false x xs is, own)
+
+-- where nothing was asked for, the spaces stay
+pub free_run_spaces : (st : State) (xs : List Step) → own_of xs ≡ [] → (state_after st xs).spaces ≡ st.spaces
+free_run_spaces st [] own = refl
+free_run_spaces st (x ∷ xs) own = free_run_spaces_at (is_unasked x) st x xs refl own (free_run_spaces (next st x) xs)

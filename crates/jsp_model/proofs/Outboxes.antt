@@ -44,7 +44,7 @@ to_rising b boxes h =
     (and_from (nat_lt 0 (length b.answers)) (are_above b.session boxes) (lt-ltb 0 (length b.answers) h.full) h.above)
     h.rest
 
-above_all : (low high : ℕ) (boxes : List Outbox) → low ≤ high → are_above high boxes ≡ true → are_above low boxes ≡ true
+pub above_all : (low high : ℕ) (boxes : List Outbox) → low ≤ high → are_above high boxes ≡ true → are_above low boxes ≡ true
 above_all low high [] le h = refl
 above_all low high (c ∷ boxes) le h =
     let parts = and_parts (nat_lt high c.session) (are_above high boxes) h in

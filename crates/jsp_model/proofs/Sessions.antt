@@ -1,10 +1,11 @@
 -- Sessions over a run: numbers rise, and what is closed stays closed.
-use Rattle.std.proofs.Common.{◌≡◌, ℕ, ℤ, ◌+◌, ◌^◌, ◌<◌, ◌≤◌, Bool, true, false, not, List, [], ◌∷◌, ◌++◌, Option, Some, None, cond, eqb, refl, ap, sym, ◌∙◌, arith}
+use Rattle.std.proofs.Common.{◌≡◌, ℕ, ℤ, ◌+◌, ◌^◌, ◌<◌, ◌≤◌, Bool, true, false, not, List, [], ◌∷◌, ◌++◌, Option, Some, None, cond, eqb, length, refl, ap, sym, ◌∙◌, arith}
 use Rattle.std.specs.Prelude.{filter, fold, is_some, ◌==◌, ◌&&◌, ◌||◌, nat_le, nat_lt, if◌then◌else◌}
 use Rattle.std.specs.List.{list_any}
 use Rattle.std.specs.Option.{option_map_or}
 use Rattle.std.proofs.lemmas.Bool.{and_parts, or_parts, or_from, ltb-true, ne_eqb, eqb-true}
 use Rattle.std.proofs.lemmas.List.Folds.{list_any-append}
+use Rattle.std.proofs.lemmas.List.{length-map, length-append}
 use Rattle.jsp_types.specs.declared.entry.Raw.{Raw}
 use Rattle.jsp_wire.specs.declared.ask.Ask.{Ask}
 use Rattle.jsp_wire.specs.declared.ask.Ask.TheVariants as ask
@@ -113,12 +114,13 @@ commit_keeps st x =
 pub record OpensNone (old new : State) : Type 0 where
   pub closed : (s : ℕ) → is_open old s ≡ false → is_open new s ≡ false
   pub last : new.last_session ≡ old.last_session
+  pub count : length new.sessions ≤ length old.sessions
 
 abbrev has : List Session → ℕ → Bool
 has sessions s = list_any (λ (k : Session). k.number == s) sessions
 
 kept : (old new : State) → Keeps old new → OpensNone old new
-kept old new h = record { closed = λ s c. ap (λ w. has w s) h.sessions ∙ c; last = h.last }
+kept old new h = record { closed = λ s c. ap (λ w. has w s) h.sessions ∙ c; last = h.last; count = omega (arith, ap length h.sessions) }
 
 still_closed : (s t : ℕ) (sessions : List Session) → has sessions s ≡ false → has (filter (λ k. not (k.number == t)) sessions) s ≡ false
 still_closed s t [] h = refl
@@ -128,8 +130,16 @@ still_closed s t (k ∷ sessions) h =
     elim (k.number == t) as (λ b. has (cond (not b) (k ∷ filter (λ k. not (k.number == t)) sessions) (filter (λ k. not (k.number == t)) sessions)) s ≡ false)
     [ true ↦ rest | false ↦ rw parts.0 rest ]
 
+fewer : (p : Session → Bool) (sessions : List Session) → length (filter p sessions) ≤ length sessions
+fewer p [] = omega arith
+fewer p (k ∷ sessions) = at (p k) (fewer p sessions)
+  where
+    at : (b : Bool) → length (filter p sessions) ≤ length sessions → length (cond b (k ∷ filter p sessions) (filter p sessions)) ≤ length (k ∷ sessions)
+    at true h = omega (arith, h)
+    at false h = omega (arith, h)
+
 closes : (st : State) (t : ℕ) → OpensNone st (close st t)
-closes st t = record { closed = λ s h. still_closed s t st.sessions h; last = refl }
+closes st t = record { closed = λ s h. still_closed s t st.sessions h; last = refl; count = fewer (λ k. not (k.number == t)) st.sessions }
 
 same_number : (b : Bool) (s : ℕ) (v : Version) (k : Session) (rest : Bool) → ((if b then record k { version = v } else k).number == s || rest) ≡ (k.number == s || rest)
 same_number true s v k rest = refl
@@ -160,7 +170,7 @@ accepted_opens_none st s id ns (ask.State x) = kept st _ (same st)
 accepted_opens_none st s id ns (ask.Reset space) = kept st _ (record { sessions = refl; last = refl })
 accepted_opens_none st s id ns ask.Spaces = kept st _ (same st)
 accepted_opens_none st s id ns ask.Bye = closes st s
-accepted_opens_none st s id ns (ask.Hello v) = record { closed = λ t h. revised t s v st.sessions ∙ h; last = refl }
+accepted_opens_none st s id ns (ask.Hello v) = record { closed = λ t h. revised t s v st.sessions ∙ h; last = refl; count = omega (arith, length-map st.sessions (λ (k : Session). if k.number == s then record k { version = v } else k)) }
 accepted_opens_none st s id ns (ask.WriteAll w) = kept st _ (write_keeps st (all_entries w))
 accepted_opens_none st s id ns (ask.TakeMany q) = kept st _ (rows_keep st s id (many_rows q) ns)
 accepted_opens_none st s id ns (ask.Contents q) =
@@ -187,7 +197,7 @@ is_opening _ = false
 
 -- the outboxes don't matter
 plain : (st now : State) (x : Step) → OpensNone st now → (next st x).sessions ≡ now.sessions → (next st x).last_session ≡ now.last_session → OpensNone st (next st x)
-plain st now x h sessions last = record { closed = λ s c. ap (λ w. has w s) sessions ∙ h.closed s c; last = last ∙ h.last }
+plain st now x h sessions last = record { closed = λ s c. ap (λ w. has w s) sessions ∙ h.closed s c; last = last ∙ h.last; count = omega (arith, ap length sessions, h.count) }
 
 other_step : (st : State) (x : Step) → is_opening x ≡ false → OpensNone st (next st x)
 unfolding next
@@ -207,6 +217,36 @@ other_step st (step.Decide x commits) h =
     plain st (if commits then commit st x else abort st x) (step.Decide x commits)
     (kept st _ (either st commits (commit st x) (abort st x) (commit_keeps st x) (record { sessions = refl; last = refl }))) refl refl
 other_step st (step.HandOut s n) h = plain st st (step.HandOut s n) (kept st st (same st)) refl refl
+
+-- a step opens one session at most
+pub opens_one : (st : State) (x : Step) → length (next st x).sessions ≤ length st.sessions + 1
+unfolding next
+opens_one st (step.Open s) = omega (arith, length-append st.sessions (record { number = s; version = version.One } ∷ []))
+opens_one st (step.Shut s) = omega (arith, (other_step st (step.Shut s) refl).count)
+opens_one st (step.Clock t) = omega (arith, (other_step st (step.Clock t) refl).count)
+opens_one st (step.Ask s a ns) = omega (arith, (other_step st (step.Ask s a ns) refl).count)
+opens_one st (step.Fault s id r) = omega (arith, (other_step st (step.Fault s id r) refl).count)
+opens_one st (step.Grant n ns) = omega (arith, (other_step st (step.Grant n ns) refl).count)
+opens_one st (step.Empty n) = omega (arith, (other_step st (step.Empty n) refl).count)
+opens_one st (step.Tell n) = omega (arith, (other_step st (step.Tell n) refl).count)
+opens_one st (step.Due item) = omega (arith, (other_step st (step.Due item) refl).count)
+opens_one st (step.Vote x space) = omega (arith, (other_step st (step.Vote x space) refl).count)
+opens_one st (step.Decide x c) = omega (arith, (other_step st (step.Decide x c) refl).count)
+opens_one st (step.HandOut s n) = omega (arith, (other_step st (step.HandOut s n) refl).count)
+
+fewer_by_one : (s : ℕ) (sessions : List Session) → has sessions s ≡ true → length (filter (λ k. not (k.number == s)) sessions) < length sessions
+fewer_by_one s [] e = absurd (cc)
+fewer_by_one s (k ∷ sessions) e = at (k.number == s) e (fewer_by_one s sessions)
+  where
+    at : (b : Bool) → (b || has sessions s) ≡ true → (has sessions s ≡ true → length (filter (λ k. not (k.number == s)) sessions) < length sessions)
+        → length (cond (not b) (k ∷ filter (λ k. not (k.number == s)) sessions) (filter (λ k. not (k.number == s)) sessions)) < length (k ∷ sessions)
+    at true q ih = let w = fewer (λ k. not (k.number == s)) sessions in omega (arith, w)
+    at false q ih = let w = ih q in omega (arith, w)
+
+-- a closing leaves one session fewer
+pub shut_closes_one : (st : State) (s : ℕ) → is_open st s ≡ true → length (next st (step.Shut s)).sessions < length st.sessions
+unfolding next
+shut_closes_one st s h = fewer_by_one s st.sessions h
 
 -- ---- over a run
 

@@ -1,5 +1,5 @@
 -- What the calls of a house promise.
-use Rattle.std.specs.Prelude.{◌≡◌, ℕ, ◌^◌, Bool, true, false, not, if◌then◌else◌, ◌&&◌, ◌||◌, ◌==◌, nat_lt, nat_le, List, [], ◌∷◌, ◌++◌, map, filter, Option, Some, None, Result, Ok, Err, IsTrue}
+use Rattle.std.specs.Prelude.{◌≡◌, ℕ, ◌^◌, ◌≤◌, Bool, true, false, not, if◌then◌else◌, ◌&&◌, ◌||◌, ◌==◌, nat_lt, nat_le, List, [], ◌∷◌, ◌++◌, length, map, filter, find, Option, Some, None, Result, Ok, Err, option_map, option_to_list, IsTrue}
 use Rattle.std.specs.List.{list_all}
 use Rattle.jsp_model.specs.declared.state.State.{State}
 use Rattle.jsp_model.specs.declared.state.Outbox.{Outbox}
@@ -8,12 +8,17 @@ use Rattle.jsp_model.specs.declared.step.Step.TheVariants as step
 use Rattle.jsp_model.specs.declared.house.Input.{Input}
 use Rattle.jsp_model.specs.declared.house.Input.TheVariants as input
 use Rattle.jsp_model.specs.declared.house.Stopped.{Stopped}
+use Rattle.jsp_model.specs.declared.house.Why.{Why}
+use Rattle.jsp_model.specs.declared.house.Why.TheVariants as why
+use Rattle.jsp_model.specs.declared.house.Settled.{Settled}
+use Rattle.jsp_model.specs.declared.house.Settled.TheVariants as settled
 use Rattle.jsp_model.specs.Lookup.{contains, is_open}
 use Rattle.jsp_model.specs.Due.{due}
 use Rattle.jsp_model.specs.Quiet.{is_quiet, are_quiet}
 use Rattle.jsp_model.specs.Touches.{touches}
 use Rattle.jsp_model.specs.Steps.{next, is_fault}
 use Rattle.jsp_model.specs.Runs.{IsRun, state_after}
+use Rattle.jsp_model.specs.Settling.{settle_step, first_unquiet, AllQuiet}
 
 -- ---- steps that are asked for
 
@@ -93,6 +98,64 @@ abbrev pub OpensNone : {A : Type 0} → Input → Result A Stopped → Type 0
 OpensNone (input.Open s) (Err e) = e.done ≡ false
 OpensNone _ _ = Unit {0}
 
+-- ---- settling and finishing
+
+-- the step of a settle turn, if the call was done
+abbrev pub settled_by : State → Result Settled Stopped → List Step
+settled_by st result = if was_done result then option_to_list (settle_step st) else []
+
+-- What a settle turn answers: the step that it made; or that no transaction votes, and what is quiet now.
+abbrev pub Answers : State → State → Settled → Type 0
+Answers old new settled.Voted = (x : ℕ) × (space : ℕ) × (settle_step old ≡ Some (step.Vote x space))
+Answers old new settled.Decided = (x : ℕ) × (commits : Bool) × (settle_step old ≡ Some (step.Decide x commits))
+Answers old new settled.Quieted = (settle_step old ≡ None) × (p : ℕ) × (first_unquiet old ≡ Some p) × IsTrue (is_quiet new p)
+Answers old new settled.Idle = (settle_step old ≡ None) × AllQuiet new
+
+abbrev pub AnswersOf : State → State → Result Settled Stopped → Type 0
+AnswersOf old new (Ok s) = Answers old new s
+AnswersOf old new (Err e) = Unit {0}
+
+-- what a settle turn does
+pub record Settles (old new : State) (owed left : List ℕ) (before after : List Step) (result : Result Settled Stopped) : Type 0 where
+  pub steps : List Step
+  pub makes : Makes old new before after steps
+  pub own : own_of steps ≡ settled_by old result
+  pub leaves : Leaves result new (touched old steps ++ owed) left
+  pub answers : AnswersOf old new result
+
+-- what is owed is made, and what is due, without a step of its own
+pub record Finishes (old new : State) (owed left : List ℕ) (before after : List Step) (result : Result Unit Stopped) : Type 0 where
+  pub steps : List Step
+  pub makes : Makes old new before after steps
+  pub own : own_of steps ≡ []
+  pub leaves : Leaves result new (touched old steps ++ owed) left
+
+-- ---- the room and the bound of the log
+
+-- As many places are spare as sessions are open, if there were that many before: so each of them can be shut.
+abbrev pub KeepsRoom : State → State → ℕ → ℕ → Type 0
+KeepsRoom old new before after = length old.sessions ≤ before → length new.sessions ≤ after
+
+abbrev pub IsWithin : Option ℕ → ℕ → Type 0
+IsWithin None n = Unit {0}
+IsWithin (Some most) n = n ≤ most
+
+-- the bound stays, and the log stays within it
+pub record KeepsBound (old new : Option ℕ) (before after : ℕ) : Type 0 where
+  pub same : new ≡ old
+  pub within : IsWithin old before → IsWithin old after
+
+abbrev pub is_full : Option ℕ → ℕ → Bool
+is_full None n = false
+is_full (Some most) n = nat_le most n
+
+-- A house is stopped by want of memory, or where the log has reached its bound.
+abbrev pub MayStop : Option ℕ → ℕ → Why → Type 0
+MayStop bound n why.NoMemory = Unit {0}
+MayStop bound n why.EraFull = IsTrue (is_full bound n)
+MayStop bound n why.Sessions = ⊥
+MayStop bound n why.Audit = ⊥
+
 -- ---- handing out and closing
 
 abbrev pub handed_out : ℕ → ℕ → List Step
@@ -101,9 +164,10 @@ handed_out s n = if n == 0 then [] else step.HandOut s n ∷ []
 abbrev pub shuts : State → ℕ → List Step
 shuts st s = if is_open st s then step.Shut s ∷ [] else []
 
-abbrev pub first_box : List Outbox → Option ℕ
-first_box [] = None
-first_box (b ∷ boxes) = Some b.session
+-- the least session above this number that has answers waiting
+abbrev pub next_waiting : State → ℕ → Option ℕ
+next_waiting st after = option_map (λ b. b.session) (find (λ b. nat_lt after b.session) st.outboxes)
 
-abbrev pub first_waiting : State → Option ℕ
-first_waiting st = first_box st.outboxes
+-- some commit awaits its decision
+abbrev pub awaits_decision : State → Bool
+awaits_decision st = not (length st.commits == 0)

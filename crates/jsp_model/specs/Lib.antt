@@ -11,6 +11,7 @@ pub mod Outboxes
 pub mod Steps
 pub mod Runs
 pub mod Config
+pub mod Settling
 pub mod House
 pub mod Limits
 pub mod Laws

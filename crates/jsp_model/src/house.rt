@@ -1,10 +1,9 @@
 //! What keeps a state of the abstract spaces.
-ghost use Rattle.std.specs.Prelude.{◌≡◌, ◌<◌, IsTrue, false, List, ℕ, length, take, IfOk, IfErr, OnErr, vec_len, vec_capacity, option_map};
+ghost use Rattle.std.specs.Prelude.{◌≡◌, ◌<◌, ◌-◌, IsTrue, false, List, ℕ, Option, Some, length, take, IfOk, IfErr, OnErr, vec_len, vec_capacity};
 ghost use Rattle.jsp_model.specs.declared.state.State.{State};
 ghost use Rattle.jsp_model.specs.Lookup.{is_open};
 ghost use Rattle.jsp_model.specs.Outboxes.{outbox_of};
-ghost use Rattle.jsp_model.specs.House.{is_input, Acts, Makes, OpensNone, handed_out, shuts, first_waiting};
-ghost use Rattle.jsp_model.specs.declared.house.Why.TheVariants.{NoMemory as no_memory};
+ghost use Rattle.jsp_model.specs.House.{is_input, Acts, Settles, Finishes, Makes, OpensNone, KeepsRoom, KeepsBound, MayStop, handed_out, shuts, next_waiting, awaits_decision};
 
 use crate::{Image, Step};
 use jsp_reply::{Refusal, Said};
@@ -37,11 +36,28 @@ pub enum Input {
     },
 }
 
-/// Why a call of a house was stopped.
+/// Why a call was stopped.
 #[derive(Clone, Copy, Debug, PartialEq, Eq)]
 pub enum Why {
     /// A growth was refused.
     NoMemory,
+    /// The log has reached the length that was set by `bound`.
+    EraFull,
+    /// There are no more numbers for sessions. No house is stopped by it.
+    Sessions,
+    /// Two counts differ that should be the same. No house is stopped by it.
+    Audit,
+}
+
+impl From<NoMemory> for Why {
+    ghost use Rattle.std.specs.Prelude.{◌≡◌};
+    ghost use Rattle.jsp_model.specs.declared.house.Why.TheVariants.{NoMemory};
+
+    ghost from_gives = { λ _ e. e ≡ NoMemory };
+
+    fn from(_e: NoMemory) -> Why {
+        Why::NoMemory
+    }
 }
 
 /// A call that was stopped. The steps that it made stand in the log; `done` says whether its own
@@ -52,11 +68,25 @@ pub struct Stopped {
     pub done: bool,
 }
 
+/// What a settle turn did.
+#[derive(Clone, Copy, Debug, PartialEq, Eq)]
+pub enum Settled {
+    /// The next space voted on the transaction whose commit was asked first.
+    Voted,
+    /// That transaction was committed or aborted.
+    Decided,
+    /// No transaction votes. The first space that wasn't quiet is quiet now.
+    Quieted,
+    /// No transaction votes, and every space is quiet.
+    Idle,
+}
+
 /// What keeps a state of the abstract spaces, and makes its steps.
 ///
 /// Each call adds the steps that it made to a log. They are a run from the state before the call to
 /// the state after it, also where the call was stopped. Each step's growths are made before it, so a
-/// step is made whole or not at all.
+/// step is made whole or not at all. If the log had a spare place for each open session before a
+/// call, it has one for each after it.
 pub trait House: Drop {
     /// The state that it stands for.
     ghost view: { Self → State };
@@ -64,13 +94,34 @@ pub trait House: Drop {
     /// The spaces that stopped calls left to be made quiet.
     ghost debt: { Self → List ℕ };
 
+    /// The length up to which calls may fill the log, if there is one.
+    ghost bound_of: { Self → Option ℕ };
+
     /// Makes the input's own step, once, and then those that nobody has to ask for, until nothing
     /// is due and every touched space is quiet. What an earlier call left is finished first.
     fn act(&mut self, input: Input, log: &mut Vec<Step>) -> Result<(), Stopped>
         requires { IsTrue (is_input input) }
         ensures acts { Acts (view self.old) (view self.new) (debt self.old) (debt self.new) log.old.items log.new.items input result }
         ensures opens { OpensNone input result }
-        ensures why { IfErr result (λ e. e.why ≡ no_memory) };
+        ensures why { IfErr result (λ e. MayStop (bound_of self.old) (vec_len log.new) e.why) }
+        ensures room { KeepsRoom (view self.old) (view self.new) (vec_capacity log.old - vec_len log.old) (vec_capacity log.new - vec_len log.new) }
+        ensures bound { KeepsBound (bound_of self.old) (bound_of self.new) (vec_len log.old) (vec_len log.new) };
+
+    /// One turn of what waits for nobody's input: the next vote or the decision of the transaction
+    /// whose commit was asked first; where none votes, the first space that isn't quiet, in the
+    /// configured order, is made quiet. What an earlier call left is finished first.
+    fn settle(&mut self, log: &mut Vec<Step>) -> Result<Settled, Stopped>
+        ensures settles { Settles (view self.old) (view self.new) (debt self.old) (debt self.new) log.old.items log.new.items result }
+        ensures why { IfErr result (λ e. MayStop (bound_of self.old) (vec_len log.new) e.why) }
+        ensures room { KeepsRoom (view self.old) (view self.new) (vec_capacity log.old - vec_len log.old) (vec_capacity log.new - vec_len log.new) }
+        ensures bound { KeepsBound (bound_of self.old) (bound_of self.new) (vec_len log.old) (vec_len log.new) };
+
+    /// Makes what an earlier call left, and what is due, without a step of its own.
+    fn finish(&mut self, log: &mut Vec<Step>) -> Result<(), Stopped>
+        ensures finishes { Finishes (view self.old) (view self.new) (debt self.old) (debt self.new) log.old.items log.new.items result }
+        ensures why { IfErr result (λ e. MayStop (bound_of self.old) (vec_len log.new) e.why) }
+        ensures room { KeepsRoom (view self.old) (view self.new) (vec_capacity log.old - vec_len log.old) (vec_capacity log.new - vec_len log.new) }
+        ensures bound { KeepsBound (bound_of self.old) (bound_of self.new) (vec_len log.old) (vec_len log.new) };
 
     /// The next answers of a session, at most `most`, in one step, or in none where there are none.
     fn hand_out(
@@ -82,22 +133,39 @@ pub trait House: Drop {
         ensures answers { IfOk result (λ v. v.items ≡ take most (outbox_of (view self.old) session)) }
         ensures steps { IfOk result (λ v. Makes (view self.old) (view self.new) log.old.items log.new.items (handed_out session (length v.items))) }
         ensures err { OnErr result ((view self.new ≡ view self.old) × (log.new.items ≡ log.old.items)) }
-        ensures not_done { IfErr result (λ e. (e.why ≡ no_memory) × (e.done ≡ false)) }
-        ensures debt { debt self.new ≡ debt self.old };
+        ensures not_done { IfErr result (λ e. e.done ≡ false) }
+        ensures debt { debt self.new ≡ debt self.old }
+        ensures why { IfErr result (λ e. MayStop (bound_of self.old) (vec_len log.new) e.why) }
+        ensures room { KeepsRoom (view self.old) (view self.new) (vec_capacity log.old - vec_len log.old) (vec_capacity log.new - vec_len log.new) }
+        ensures bound { KeepsBound (bound_of self.old) (bound_of self.new) (vec_len log.old) (vec_len log.new) };
 
-    /// Closes a session, if it is open. Takes no memory: the log has room for the step.
+    /// Closes a session, if it is open. Takes no memory: the log has room for the step. No bound
+    /// stops it.
     fn shut(&mut self, session: u64, log: &mut Vec<Step>)
         requires { vec_len log.old < vec_capacity log.old }
         ensures steps { Makes (view self.old) (view self.new) log.old.items log.new.items (shuts (view self.old) session) }
+        ensures debt { debt self.new ≡ debt self.old }
+        ensures room { KeepsRoom (view self.old) (view self.new) (vec_capacity log.old - vec_len log.old) (vec_capacity log.new - vec_len log.new) }
+        ensures bound { bound_of self.new ≡ bound_of self.old };
+
+    /// From now on no call but `shut` adds to a log that is this long or longer.
+    fn bound(&mut self, most: u64)
+        ensures bound { bound_of self.new ≡ Some most }
+        ensures view { view self.new ≡ view self.old }
         ensures debt { debt self.new ≡ debt self.old };
 
     /// Whether the session is open.
     fn is_open(&self, session: u64) -> bool
         ensures { result ≡ is_open (view self.now) session };
 
-    /// The least session that has answers waiting to be handed out.
-    fn first_waiting(&self) -> Option<u64>
-        ensures { result ≡ first_waiting (view self.now) };
+    /// The least session above this number that has answers waiting to be handed out. A caller that
+    /// begins at 0 and goes on from each answer finds them all.
+    fn next_waiting(&self, after: u64) -> Option<u64>
+        ensures { result ≡ next_waiting (view self.now) after };
+
+    /// Whether some commit awaits its decision.
+    fn is_voting(&self) -> bool
+        ensures { result ≡ awaits_decision (view self.now) };
 
     /// A copy of the state.
     fn image(&self) -> Result<Image, NoMemory>

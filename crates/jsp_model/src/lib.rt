@@ -16,7 +16,7 @@ mod state;
 mod step;
 
 pub use config::Config;
-pub use house::{House, Input, Stopped, Why};
+pub use house::{House, Input, Settled, Stopped, Why};
 pub use image::Image;
 pub use jsp_lease::{Item, Rank};
 pub use state::{

@@ -1,13 +1,13 @@
 //! The command `jsp`: reads its arguments and hands the work to jsp_serve.
 //!
 //! `jsp script NAME..` runs the script on standard input over the spaces NAME.. and prints each
-//! answer. It ends with status 0, also after help, with 2 where the arguments can't be used, and
+//! answer; with `--audit` it replays the run first, and compares it with what was sent. It ends with status 0, also after help, with 2 where the arguments can't be used, and
 //! else with 1 after the first fault met.
 #![tactic(auto)]
 
 mod arguments;
 
-use arguments::{NAMES, command};
+use arguments::{AUDIT, NAMES, command};
 use clap::ArgMatches;
 use clap::error::{Error, ErrorKind};
 use jsp_rows::Config;
@@ -42,8 +42,9 @@ fn run(rt: &HostRuntime, matches: &ArgMatches<'_>) -> io::Result<ExitCode> {
         eprintln!(rt; "jsp: bad space name")?;
         return Ok(ExitCode::from(BAD_ARGUMENTS));
     };
+    let audits = given.get_flag(AUDIT);
     let (mut input, mut out, mut faults) = (rt.stdin(), rt.stdout(), rt.stderr());
-    let ending = script(alloc, &config, &mut input, &mut out, &mut faults);
+    let ending = script(alloc, &config, audits, &mut input, &mut out, &mut faults);
     Ok(ExitCode::from(ending.status))
 }
 

@@ -36,7 +36,7 @@ own_decides (step.Due item) e = absurd (cc)
 own_decides (step.Vote x space) e = absurd (cc)
 own_decides (step.HandOut s n) e = absurd (cc)
 
-undecided : (steps : List Step) → list_all (λ s. not (decides s)) (own_of steps) ≡ true → list_all (λ s. not (decides s)) steps ≡ true
+pub undecided : (steps : List Step) → list_all (λ s. not (decides s)) (own_of steps) ≡ true → list_all (λ s. not (decides s)) steps ≡ true
 undecided [] e = refl
 undecided (act ∷ steps) e = go (decides act) refl (is_unasked act) refl e (undecided steps)
   where
@@ -47,7 +47,7 @@ undecided (act ∷ steps) e = go (decides act) refl (is_unasked act) refl e (und
     go false k true l q ih = ih q
     go false k false l q ih = ih (and_parts (not (decides (bare act))) (list_all (λ s. not (decides s)) (own_of steps)) q).1
 
-asked_undecided : (x : Input) → decides (step_of x) ≡ false
+pub asked_undecided : (x : Input) → decides (step_of x) ≡ false
 asked_undecided (input.Open s) = refl
 asked_undecided (input.Clock t) = refl
 asked_undecided (input.Ask s asked) = refl

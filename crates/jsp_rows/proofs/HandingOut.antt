@@ -11,7 +11,7 @@ use Rattle.jsp_model.specs.Lookup.{is_open}
 use Rattle.jsp_model.specs.Steps.{is_legal, next}
 use Rattle.jsp_model.specs.Outboxes.{outbox_of}
 use Rattle.jsp_model.specs.House.{Makes, handed_out, shuts}
-use Rattle.jsp_rows.proofs.Adding.{makes_one}
+use Rattle.jsp_rows.proofs.Going.{makes_one}
 
 hand_out_legal : (st : State) (s n : ℕ) → 1 ≤ n → n ≤ length (outbox_of st s) → is_legal st (step.HandOut s n) ≡ true
 unfolding is_legal

@@ -1,5 +1,12 @@
-pub mod Adding
-pub mod Finishing
-pub mod HandingOut
 pub mod LeastRows
-pub mod OwnSteps
+pub mod HandingOut
+pub mod Places
+pub mod QuietingSteps
+pub mod Going
+pub mod Coming
+pub mod Logging
+pub mod PerformingSteps
+pub mod Opening
+pub mod Turning
+pub mod Idling
+pub mod Staying

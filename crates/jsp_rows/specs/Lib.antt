@@ -1,1 +1,3 @@
+pub mod Owing
 pub mod Making
+pub mod Settling

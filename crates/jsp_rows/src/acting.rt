@@ -1,151 +1,112 @@
 //! What an act does.
-ghost use Rattle.std.specs.Prelude.{◌≡◌, [], None, IfErr, IsTrue};
+ghost use Rattle.std.specs.Prelude.{◌≡◌, ◌-◌, ◌^◌, ◌&&◌, nat_le, nat_lt, true, false, IfErr, IsTrue, vec_len, vec_capacity};
 ghost use Rattle.jsp_model.specs.declared.house.Input.TheVariants as input;
-ghost use Rattle.jsp_model.specs.declared.house.Why.TheVariants.{NoMemory as no_memory};
-ghost use Rattle.jsp_model.specs.Due.{due};
-ghost use Rattle.jsp_model.specs.House.{Acts, OpensNone, is_input, accepts, acted};
-ghost use Rattle.jsp_model.proofs.Waiting.{NothingWaits};
-ghost use Rattle.jsp_model.specs.Steps.{is_fault};
-ghost use Rattle.jsp_rows.specs.Making.{Adds};
+ghost use Rattle.jsp_model.specs.House.{Acts, MayStop, OpensNone, is_input, accepts as takes, acted, step_of as own_step};
+ghost use Rattle.jsp_rows.specs.Making.{KeepsLog};
 
-use crate::choosing::choose_rows;
-use crate::making::{BEFORE, finish, make, make_and_finish};
+use crate::finishing::finish;
+use crate::making::make;
+use crate::performing::{clear, perform};
 use jsp_audit::is_open;
 use jsp_model::{Image, Input, Step, Stopped};
-use jsp_reply::Refusal;
-use jsp_wire::Asked;
+use jsp_types::Items;
 use std::alloc::Global;
 
 /// The greatest number of a session.
 const LAST_SESSION: u64 = 1 << 31;
 
-/// Finishes what an earlier call left, makes the input's own step, and then what is due.
+/// Finishes what an earlier call left, makes the input's own step, and then what follows from it.
 pub(crate) fn act(
     alloc: Global,
     image: &mut Image,
+    debt: &mut Vec<u64>,
     input: Input,
+    bound: Option<u64>,
     log: &mut Vec<Step>,
 ) -> Result<(), Stopped>
-    requires input { IsTrue (is_input input) }
-    requires waits { NothingWaits image.old }
-    ensures still { NothingWaits image.new }
-    ensures acts { Acts image.old image.new [] [] log.old.items log.new.items input result }
+    requires { IsTrue (is_input input) }
+    ensures acts { Acts image.old image.new debt.old.items debt.new.items log.old.items log.new.items input result }
     ensures opens { OpensNone input result }
-    ensures why { IfErr result (λ e. e.why ≡ no_memory) }
+    ensures keeps { KeepsLog image.old image.new bound (vec_len log.old) (vec_len log.new) (vec_capacity log.old - vec_len log.old) (vec_capacity log.new - vec_len log.new) }
+    ensures why { IfErr result (λ e. MayStop bound (vec_len log.new) e.why) }
 {
-    match finish(alloc, image, log) {
-        Err(_) => Err(BEFORE),
-        Ok(()) => make_own(alloc, image, input, log),
+    if !accepts(image, &input) {
+        return clear(alloc, image, debt, false, bound, log);
+    }
+    if let Input::Open { session } = input {
+        return open(alloc, image, debt, session, bound, log);
+    }
+    perform(alloc, image, debt, step_of(alloc, input), bound, log)
+}
+
+/// Whether the input makes a step. What comes from a closed session is passed over, and so is the
+/// opening of a number that isn't above all earlier ones.
+fn accepts(image: &Image, input: &Input) -> bool
+    ensures { result ≡ takes image.now input.now }
+{
+    let state = image.state();
+    match input {
+        Input::Open { session } => may_open(state.last_session, *session),
+        Input::Clock { .. } => true,
+        Input::Ask { session, .. } => is_open(state, *session),
+        Input::Fault { session, .. } => is_open(state, *session),
     }
 }
 
-/// Makes the input's own step, where nothing is due, and then what is due.
-fn make_own(
-    alloc: Global,
-    image: &mut Image,
-    input: Input,
-    log: &mut Vec<Step>,
-) -> Result<(), Stopped>
-    requires input { IsTrue (is_input input) }
-    requires waits { NothingWaits image.old }
-    requires due { due image.old ≡ None }
-    ensures adds { Adds image.old image.new log.old.items log.new.items (acted image.old input result) result }
-    ensures opens { OpensNone input result }
+fn may_open(last: u64, session: u64) -> bool
+    ensures { result ≡ (nat_le 1 session && nat_lt last session && nat_le session (2 ^ 31)) }
+{
+    1 <= session && last < session && session <= LAST_SESSION
+}
+
+/// The input's own step. The rows of a request are chosen when nothing is due any more.
+fn step_of(alloc: Global, input: Input) -> Step
+    ensures { result ≡ own_step input }
 {
     match input {
-        Input::Open { session } => open(alloc, image, session, log),
-        Input::Clock { time } => clock(alloc, image, time, log),
-        Input::Ask { session, asked } => ask(alloc, image, session, asked, log),
+        Input::Open { session } => Step::Open { session },
+        Input::Clock { time } => Step::Clock { time },
+        Input::Ask { session, asked } => Step::Ask {
+            session,
+            asked,
+            rows: Items::new(alloc),
+        },
         Input::Fault {
             session,
             id,
             refusal,
-        } => fault(alloc, image, session, id, refusal, log),
-    }
-}
-
-fn open(alloc: Global, image: &mut Image, session: u64, log: &mut Vec<Step>) -> Result<(), Stopped>
-    requires waits { NothingWaits image.old }
-    requires due { due image.old ≡ None }
-    ensures adds { Adds image.old image.new log.old.items log.new.items (acted image.old (input.Open session) result) result }
-    ensures opens { OpensNone (input.Open session) result }
-{
-    if !may_open(image, session) {
-        return Ok(());
-    }
-    match make(alloc, image, Step::Open { session }, log) {
-        Err(_) => Err(BEFORE),
-        Ok(()) => Ok(()),
-    }
-}
-
-fn may_open(image: &Image, session: u64) -> bool
-    ensures { result ≡ accepts image.now (input.Open session) }
-{
-    let last = image.state().last_session;
-    1 <= session && last < session && session <= LAST_SESSION
-}
-
-fn clock(alloc: Global, image: &mut Image, time: u64, log: &mut Vec<Step>) -> Result<(), Stopped>
-    requires { NothingWaits image.old }
-    ensures { Adds image.old image.new log.old.items log.new.items (acted image.old (input.Clock time) result) result }
-{
-    make_and_finish(alloc, image, Step::Clock { time }, log)
-}
-
-fn ask(
-    alloc: Global,
-    image: &mut Image,
-    session: u64,
-    asked: Asked,
-    log: &mut Vec<Step>,
-) -> Result<(), Stopped>
-    requires waits { NothingWaits image.old }
-    requires due { due image.old ≡ None }
-    ensures { Adds image.old image.new log.old.items log.new.items (acted image.old (input.Ask session asked) result) result }
-{
-    if !is_open(image.state(), session) {
-        return Ok(());
-    }
-    match choose_rows(alloc, image.state(), session, asked.id(), asked.ask()) {
-        Err(_) => Err(BEFORE),
-        Ok(rows) => make_and_finish(
-            alloc,
-            image,
-            Step::Ask {
-                session,
-                asked,
-                rows,
-            },
-            log,
-        ),
-    }
-}
-
-fn fault(
-    alloc: Global,
-    image: &mut Image,
-    session: u64,
-    id: Option<u64>,
-    refusal: Refusal,
-    log: &mut Vec<Step>,
-) -> Result<(), Stopped>
-    requires fault { IsTrue (is_fault refusal) }
-    requires waits { NothingWaits image.old }
-    requires due { due image.old ≡ None }
-    ensures { Adds image.old image.new log.old.items log.new.items (acted image.old (input.Fault session id refusal) result) result }
-{
-    if !is_open(image.state(), session) {
-        return Ok(());
-    }
-    make_and_finish(
-        alloc,
-        image,
-        Step::Fault {
+        } => Step::Fault {
             session,
             id,
             refusal,
         },
-        log,
-    )
+    }
+}
+
+/// Opens a session. That touches nothing and makes nothing due, so no call that is stopped has
+/// opened one.
+fn open(
+    alloc: Global,
+    image: &mut Image,
+    debt: &mut Vec<u64>,
+    session: u64,
+    bound: Option<u64>,
+    log: &mut Vec<Step>,
+) -> Result<(), Stopped>
+    requires { takes image.old (input.Open session) ≡ true }
+    ensures acts { Acts image.old image.new debt.old.items debt.new.items log.old.items log.new.items (input.Open session) result }
+    ensures not_done { IfErr result (λ e. e.done ≡ false) }
+    ensures keeps { KeepsLog image.old image.new bound (vec_len log.old) (vec_len log.new) (vec_capacity log.old - vec_len log.old) (vec_capacity log.new - vec_len log.new) }
+    ensures why { IfErr result (λ e. MayStop bound (vec_len log.new) e.why) }
+{
+    if let Err(why) = finish(alloc, image, debt, None, bound, log) {
+        return Err(Stopped { why, done: false });
+    }
+    match make(alloc, image, Step::Open { session }, bound, log) {
+        Err(why) => Err(Stopped { why, done: false }),
+        Ok(()) => {
+            debt.clear();
+            Ok(())
+        }
+    }
 }

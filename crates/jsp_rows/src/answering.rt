@@ -1,14 +1,13 @@
 //! Handing out answers, and closing sessions.
-ghost use Rattle.std.specs.Prelude.{◌≡◌, ◌≤◌, ◌<◌, [], ◌∷◌, false, IfOk, IfErr, OnErr, length, take, min, vec_len, vec_capacity};
+ghost use Rattle.std.specs.Prelude.{◌≡◌, ◌≤◌, ◌<◌, ◌+◌, ◌-◌, [], ◌∷◌, false, IfOk, IfErr, OnErr, OnOk, length, take, min, vec_len, vec_capacity};
 ghost use Rattle.jsp_model.specs.declared.step.Step.TheVariants as step;
-ghost use Rattle.jsp_model.specs.declared.house.Why.TheVariants.{NoMemory as no_memory};
-ghost use Rattle.jsp_model.specs.House.{Makes, handed_out, shuts};
-ghost use Rattle.jsp_model.proofs.Waiting.{NothingWaits};
+ghost use Rattle.jsp_model.specs.House.{Makes, MayStop, KeepsRoom, handed_out, shuts, next_waiting as waits_next};
 ghost use Rattle.jsp_model.specs.Outboxes.{outbox_of};
+ghost use Rattle.jsp_rows.specs.Making.{KeepsLog};
 
-use crate::making::{BEFORE, enter};
+use crate::making::{enter, is_full, reserve_places};
 use jsp_audit::{hand_out, is_open, shut, waiting};
-use jsp_model::{Image, Step, Stopped};
+use jsp_model::{Image, State, Step, Stopped, Why};
 use jsp_reply::Said;
 use jsp_types::NoMemory;
 use std::alloc::Global;
@@ -20,22 +19,23 @@ pub(crate) fn answer(
     image: &mut Image,
     session: u64,
     most: u64,
+    bound: Option<u64>,
     log: &mut Vec<Step>,
 ) -> Result<Vec<Said>, Stopped>
-    requires { NothingWaits image.old }
-    ensures still { NothingWaits image.new }
     ensures answers { IfOk result (λ v. v.items ≡ take most (outbox_of image.old session)) }
     ensures steps { IfOk result (λ v. Makes image.old image.new log.old.items log.new.items (handed_out session (length v.items))) }
     ensures err { OnErr result ((image.new ≡ image.old) × (log.new.items ≡ log.old.items)) }
-    ensures not_done { IfErr result (λ e. (e.why ≡ no_memory) × (e.done ≡ false)) }
+    ensures not_done { IfErr result (λ e. e.done ≡ false) }
+    ensures keeps { KeepsLog image.old image.new bound (vec_len log.old) (vec_len log.new) (vec_capacity log.old - vec_len log.old) (vec_capacity log.new - vec_len log.new) }
+    ensures why { IfErr result (λ e. MayStop bound (vec_len log.new) e.why) }
 {
     let count = most.min(waiting(image.state(), session));
     if count == 0 {
         return Ok(Vec::new(alloc));
     }
-    match answer_some(alloc, image, session, count, log) {
+    match answer_some(alloc, image, session, count, bound, log) {
         Ok(answers) => Ok(answers),
-        Err(_) => Err(BEFORE),
+        Err(why) => Err(Stopped { why, done: false }),
     }
 }
 
@@ -46,17 +46,42 @@ fn answer_some(
     image: &mut Image,
     session: u64,
     count: u64,
+    bound: Option<u64>,
     log: &mut Vec<Step>,
-) -> Result<Vec<Said>, NoMemory>
-    requires waits { NothingWaits image.old }
+) -> Result<Vec<Said>, Why>
     requires some { 1 ≤ count }
     requires there { count ≤ length (outbox_of image.old session) }
-    ensures still { NothingWaits image.new }
     ensures answers { IfOk result (λ v. v.items ≡ take count (outbox_of image.old session)) }
     ensures steps { IfOk result (λ v. Makes image.old image.new log.old.items log.new.items (step.HandOut session count ∷ [])) }
     ensures err { OnErr result ((image.new ≡ image.old) × (log.new.items ≡ log.old.items)) }
+    ensures keeps { KeepsLog image.old image.new bound (vec_len log.old) (vec_len log.new) (vec_capacity log.old - vec_len log.old) (vec_capacity log.new - vec_len log.new) }
+    ensures why { IfErr result (λ w. MayStop bound (vec_len log.new) w) }
 {
-    log.reserve(1)?;
+    if is_full(log, bound) {
+        return Err(Why::EraFull);
+    }
+    Ok(answer_within(alloc, image, session, count, log)?)
+}
+
+/// The same where the log isn't full.
+fn answer_within(
+    alloc: Global,
+    image: &mut Image,
+    session: u64,
+    count: u64,
+    log: &mut Vec<Step>,
+) -> Result<Vec<Said>, NoMemory>
+    requires some { 1 ≤ count }
+    requires there { count ≤ length (outbox_of image.old session) }
+    ensures answers { IfOk result (λ v. v.items ≡ take count (outbox_of image.old session)) }
+    ensures steps { IfOk result (λ v. Makes image.old image.new log.old.items log.new.items (step.HandOut session count ∷ [])) }
+    ensures err { OnErr result ((image.new ≡ image.old) × (log.new.items ≡ log.old.items)) }
+    ensures room { OnOk result (length image.old.sessions < vec_capacity log.new - vec_len log.new) }
+    ensures len { OnOk result (vec_len log.new ≡ vec_len log.old + 1) }
+    ensures spare { OnErr result (vec_capacity log.old - vec_len log.old ≤ vec_capacity log.new - vec_len log.new) }
+    ensures same { OnErr result (vec_len log.new ≡ vec_len log.old) }
+{
+    reserve_places(image.state(), log)?;
     let answers = hand_out(alloc, image, session, count as usize)?;
     enter(log, Step::HandOut { session, count });
     Ok(answers)
@@ -64,13 +89,27 @@ fn answer_some(
 
 /// Closes a session, if it is open. Takes no memory: the log has room for the step.
 pub(crate) fn close(image: &mut Image, session: u64, log: &mut Vec<Step>)
-    requires waits { NothingWaits image.old }
-    requires room { vec_len log.old < vec_capacity log.old }
-    ensures still { NothingWaits image.new }
+    requires { vec_len log.old < vec_capacity log.old }
     ensures steps { Makes image.old image.new log.old.items log.new.items (shuts image.old session) }
+    ensures room { KeepsRoom image.old image.new (vec_capacity log.old - vec_len log.old) (vec_capacity log.new - vec_len log.new) }
 {
     if is_open(image.state(), session) {
         shut(image, session);
         enter(log, Step::Shut { session });
+    }
+}
+
+/// The least session above this number that has answers waiting.
+pub(crate) fn next_waiting(state: &State, after: u64) -> Option<u64>
+    ensures { result ≡ waits_next state.now after }
+{
+    match state
+        .outboxes
+        .as_slice()
+        .iter()
+        .find(|outbox| after < outbox.session)
+    {
+        None => None,
+        Some(outbox) => Some(outbox.session),
     }
 }

@@ -2,19 +2,27 @@
 //!
 //! `RowsHouse` keeps the state of the abstract spaces as an `Image`. It chooses steps and makes them
 //! through jsp_audit, so each of its calls is a legal run: that is the contract `House` of jsp_model,
-//! which it meets. Of several rows that a read or take may be given it gives the one with the least number.
-//! An act makes what an earlier call left, then its own step, then what is due.
+//! which it meets. A call first finishes what an earlier one left and quiets the spaces that its own
+//! step touches, then makes that step, and then all that follows from it by itself (`finishing.rt`).
+//! Of several rows that a request may be given it gives those with the least numbers. A space is made
+//! quiet by grants in arrival order, then by answers that there is nothing, then by events.
 #![tactic(auto)]
 
 mod acting;
 mod answering;
 mod choosing;
+mod finishing;
 mod making;
+mod owing;
+mod performing;
+mod quieting;
 mod rows_house;
+mod settling;
+mod unquiet;
 
 // What the calls of a house speak of, so that its callers name one crate.
 pub use jsp_audit::{ReplayFault, Replayed, replay, replay_from};
-pub use jsp_model::{Config, House, Image, Input, Step, Stopped, Why};
+pub use jsp_model::{Config, House, Image, Input, Settled, Step, Stopped, Why};
 pub use rows_house::RowsHouse;
 
 #[cfg(test)]

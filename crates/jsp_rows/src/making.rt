@@ -1,85 +1,86 @@
 //! Making steps and entering them in the log.
-ghost use Rattle.std.specs.Prelude.{◌≡◌, ◌<◌, ◌++◌, ◌∷◌, [], OnOk, OnErr, IsTrue, not, vec_len, vec_capacity};
-ghost use Rattle.jsp_model.specs.House.{is_unasked};
-ghost use Rattle.jsp_model.proofs.Waiting.{NothingWaits, asks_built};
+ghost use Rattle.std.specs.Prelude.{◌≡◌, ◌<◌, ◌≤◌, ◌+◌, ◌-◌, ◌++◌, ◌∷◌, [], OnOk, OnErr, IfErr, IsTrue, length, vec_len, vec_capacity};
+ghost use Rattle.jsp_model.specs.House.{MayStop, is_full as reaches};
 ghost use Rattle.jsp_model.specs.Steps.{is_legal, next};
-ghost use Rattle.jsp_rows.specs.Making.{Finishes, Adds, if_done};
+ghost use Rattle.jsp_rows.specs.Making.{KeepsLog};
 
-use jsp_audit::{apply, due};
-use jsp_model::{Image, Step, Stopped, Why};
+use jsp_audit::apply;
+use jsp_model::{Image, State, Step, Why};
 use jsp_types::NoMemory;
 use std::alloc::Global;
-
-/// A call that was stopped before its own step.
-pub(crate) const BEFORE: Stopped = Stopped {
-    why: Why::NoMemory,
-    done: false,
-};
-
-/// A call that was stopped after its own step.
-pub(crate) const AFTER: Stopped = Stopped {
-    why: Why::NoMemory,
-    done: true,
-};
 
 /// Makes a legal step and enters it in the log, whole or not at all.
 pub(crate) fn make(
     alloc: Global,
     image: &mut Image,
     step: Step,
+    bound: Option<u64>,
     log: &mut Vec<Step>,
-) -> Result<(), NoMemory>
-    requires legal { IsTrue (is_legal image.old step) }
-    requires waits { NothingWaits image.old }
-    requires built { IsTrue (asks_built step) }
+) -> Result<(), Why>
+    requires { IsTrue (is_legal image.old step) }
     ensures made { OnOk result (image.new ≡ next image.old step) }
     ensures log { OnOk result (log.new.items ≡ log.old.items ++ step ∷ []) }
     ensures err { OnErr result ((image.new ≡ image.old) × (log.new.items ≡ log.old.items)) }
-    ensures still { NothingWaits image.new }
+    ensures keeps { KeepsLog image.old image.new bound (vec_len log.old) (vec_len log.new) (vec_capacity log.old - vec_len log.old) (vec_capacity log.new - vec_len log.new) }
+    ensures why { IfErr result (λ w. MayStop bound (vec_len log.new) w) }
 {
-    log.reserve(1)?;
+    if is_full(log, bound) {
+        return Err(Why::EraFull);
+    }
+    make_within(alloc, image, step, log)?;
+    Ok(())
+}
+
+/// Whether the log has reached its bound.
+pub(crate) fn is_full(log: &Vec<Step>, bound: Option<u64>) -> bool
+    ensures { result ≡ reaches bound (vec_len log.now) }
+{
+    match bound {
+        None => false,
+        Some(most) => most <= log.len() as u64,
+    }
+}
+
+/// The same where the log isn't full.
+fn make_within(
+    alloc: Global,
+    image: &mut Image,
+    step: Step,
+    log: &mut Vec<Step>,
+) -> Result<(), NoMemory>
+    requires { IsTrue (is_legal image.old step) }
+    ensures made { OnOk result (image.new ≡ next image.old step) }
+    ensures log { OnOk result (log.new.items ≡ log.old.items ++ step ∷ []) }
+    ensures err { OnErr result ((image.new ≡ image.old) × (log.new.items ≡ log.old.items)) }
+    ensures room { OnOk result (length image.old.sessions < vec_capacity log.new - vec_len log.new) }
+    ensures len { OnOk result (vec_len log.new ≡ vec_len log.old + 1) }
+    ensures spare { OnErr result (vec_capacity log.old - vec_len log.old ≤ vec_capacity log.new - vec_len log.new) }
+    ensures same { OnErr result (vec_len log.new ≡ vec_len log.old) }
+{
+    reserve_places(image.state(), log)?;
     apply(alloc, image, &step)?;
     enter(log, step);
+    Ok(())
+}
+
+/// Makes room in the log for a step, and for a closing of each session that is open after it: of those
+/// that are open now, and of one that it may open.
+pub(crate) fn reserve_places(state: &State, log: &mut Vec<Step>) -> Result<(), NoMemory>
+    ensures items { log.new.items ≡ log.old.items }
+    ensures len { vec_len log.new ≡ vec_len log.old }
+    ensures capacity { vec_capacity log.old ≤ vec_capacity log.new }
+    ensures ok { OnOk result (vec_len log.new + (length state.now.sessions + 2) ≤ vec_capacity log.new) }
+{
+    log.reserve(state.sessions.as_slice().len() + 2)?;
     Ok(())
 }
 
 /// Enters a step in the log, which has room for it.
 pub(crate) fn enter(log: &mut Vec<Step>, step: Step)
     requires { vec_len log.old < vec_capacity log.old }
-    ensures { log.new.items ≡ log.old.items ++ step ∷ [] }
+    ensures items { log.new.items ≡ log.old.items ++ step ∷ [] }
+    ensures len { vec_len log.new ≡ vec_len log.old + 1 }
+    ensures capacity { vec_capacity log.old ≤ vec_capacity log.new }
 {
     log.push(step).unwrap();
-}
-
-/// Makes what is due, one by one, until nothing is.
-pub(crate) fn finish(alloc: Global, image: &mut Image, log: &mut Vec<Step>) -> Result<(), NoMemory>
-    requires { NothingWaits image.old }
-    ensures { Finishes image.old image.new log.old.items log.new.items result }
-{
-    'items: while let Some(item) = due(image.state()) {
-        make(alloc, image, Step::Due { item }, log)?;
-    }
-    Ok(())
-}
-
-/// Makes a legal step that was asked for, and then what is due.
-pub(crate) fn make_and_finish(
-    alloc: Global,
-    image: &mut Image,
-    step: Step,
-    log: &mut Vec<Step>,
-) -> Result<(), Stopped>
-    requires waits { NothingWaits image.old }
-    requires legal { IsTrue (is_legal image.old step) }
-    requires asked { IsTrue (not (is_unasked step)) }
-    requires built { IsTrue (asks_built step) }
-    ensures { Adds image.old image.new log.old.items log.new.items (if_done step result) result }
-{
-    match make(alloc, image, step, log) {
-        Err(_) => Err(BEFORE),
-        Ok(()) => match finish(alloc, image, log) {
-            Err(_) => Err(AFTER),
-            Ok(()) => Ok(()),
-        },
-    }
 }

@@ -1,52 +1,79 @@
 //! The house.
-ghost use Rattle.std.specs.Prelude.{◌≡◌, [], IfOk};
+ghost use Rattle.std.specs.Prelude.{◌≡◌, [], None, IfOk};
 ghost use Rattle.jsp_model.specs.Lookup.{empty};
+ghost use Rattle.jsp_quiet.specs.Steady.{IsSteady};
+ghost use Rattle.jsp_quiet.specs.Props.{IsSteady-prop};
 
 use crate::acting::act;
-use crate::answering::{answer, close};
+use crate::answering::{answer, close, next_waiting};
+use crate::performing::clear;
+use crate::settling::settle;
 use jsp_audit::{empty_image, is_open};
-use jsp_model::{Config, House, Image, Input, Step, Stopped};
+use jsp_model::{Config, House, Image, Input, Settled, Step, Stopped};
 use jsp_reply::Said;
 use jsp_types::NoMemory;
 use std::alloc::Global;
-use std::marker::Model;
 
-/// A house that keeps plain lists and scans them. Contracts see it as its state.
+/// A house that keeps plain lists and scans them.
 #[derive(Drop)]
 pub struct RowsHouse {
     alloc: Global,
     image: Image,
-}
-
-impl Model for RowsHouse {
-    ghost use Rattle.jsp_model.specs.declared.state.State.{State};
-    ghost use Rattle.jsp_model.proofs.Waiting.{NothingWaits};
-
-    ghost Value = { State };
-
-    ghost view = { λ h. h.image };
-
-    ghost invariant = { λ h. NothingWaits h.image };
+    /// The spaces that stopped calls left to be made quiet, each once.
+    debt: Vec<u64>,
+    /// The length up to which calls may fill the log.
+    bound: Option<u64>,
+    ghost steady: { IsSteady image } by { IsSteady-prop image },
 }
 
 impl RowsHouse {
-    /// The empty house of a config.
+    /// The empty house of a config. It owes nothing, and its log has no bound.
     pub fn new(alloc: Global, config: &Config) -> Result<RowsHouse, NoMemory>
-        ensures { IfOk result (λ h. h ≡ empty config.now) }
+        ensures view { IfOk result (λ h. h.image ≡ empty config.now) }
+        ensures debt { IfOk result (λ h. h.debt.items ≡ []) }
+        ensures bound { IfOk result (λ h. h.bound ≡ None) }
     {
         let image = empty_image(alloc, config)?;
-        Ok(RowsHouse { alloc, image })
+        Ok(RowsHouse {
+            alloc,
+            image,
+            debt: Vec::new(alloc),
+            bound: None,
+        })
     }
 }
 
 impl House for RowsHouse {
-    ghost view = { λ h. h };
+    ghost view = { λ h. h.image };
 
-    // What is due is all that a stopped call leaves, and the next one finds it in the state.
-    ghost debt = { λ h. [] };
+    ghost debt = { λ h. h.debt.items };
+
+    ghost bound_of = { λ h. h.bound };
 
     fn act(&mut self, input: Input, log: &mut Vec<Step>) -> Result<(), Stopped> {
-        act(self.alloc, &mut self.image, input, log)
+        act(
+            self.alloc,
+            &mut self.image,
+            &mut self.debt,
+            input,
+            self.bound,
+            log,
+        )
+    }
+
+    fn settle(&mut self, log: &mut Vec<Step>) -> Result<Settled, Stopped> {
+        settle(self.alloc, &mut self.image, &mut self.debt, self.bound, log)
+    }
+
+    fn finish(&mut self, log: &mut Vec<Step>) -> Result<(), Stopped> {
+        clear(
+            self.alloc,
+            &mut self.image,
+            &mut self.debt,
+            false,
+            self.bound,
+            log,
+        )
     }
 
     fn hand_out(
@@ -55,22 +82,27 @@ impl House for RowsHouse {
         most: u64,
         log: &mut Vec<Step>,
     ) -> Result<Vec<Said>, Stopped> {
-        answer(self.alloc, &mut self.image, session, most, log)
+        answer(self.alloc, &mut self.image, session, most, self.bound, log)
     }
 
     fn shut(&mut self, session: u64, log: &mut Vec<Step>) {
         close(&mut self.image, session, log);
     }
 
+    fn bound(&mut self, most: u64) {
+        self.bound = Some(most);
+    }
+
     fn is_open(&self, session: u64) -> bool {
         is_open(self.image.state(), session)
     }
 
-    fn first_waiting(&self) -> Option<u64> {
-        match self.image.state().outboxes.as_slice().first() {
-            None => None,
-            Some(outbox) => Some(outbox.session),
-        }
+    fn next_waiting(&self, after: u64) -> Option<u64> {
+        next_waiting(self.image.state(), after)
+    }
+
+    fn is_voting(&self) -> bool {
+        !self.image.state().commits.as_slice().is_empty()
     }
 
     fn image(&self) -> Result<Image, NoMemory> {

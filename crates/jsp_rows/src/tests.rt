@@ -1,5 +1,5 @@
 use crate::RowsHouse;
-use jsp_model::{Config, House, Input, Step, Stopped};
+use jsp_model::{Config, House, Input, Step, Stopped, Why};
 use jsp_reply::{Said, text};
 use jsp_types::{Items, Text};
 use jsp_wire::{Asked, read_ask};
@@ -121,63 +121,43 @@ fn of_two_entries_the_one_written_first_is_taken(rt: HostRuntime) -> Result<(), 
     Ok(())
 }
 
+const WAITS: &str = r#"{"id":4,"op":"take","space":"a","template":null,"timeout":500}"#;
+
+// How a write was stopped whose log was full after its own step, and what is answered once the call
+// was finished in a longer one.
+fn stopped_and_finished(
+    rt: &HostRuntime,
+    house: &mut RowsHouse,
+) -> Result<(Stopped, Vec<u8>), Fail> {
+    let mut log = Vec::new(rt.alloc());
+    sends_all(rt, house, &[(0, DECLARE), (0, WAITS)], &mut log)?;
+    house.bound(log.len() as u64 + 1);
+    let asked = request(rt, WRITE_7)?;
+    let stopped = match house.act(Input::Ask { session: 1, asked }, &mut log) {
+        Ok(()) => return Err(Fail::new("the log has room for a grant")),
+        Err(stopped) => stopped,
+    };
+    house.bound(100);
+    done(house.finish(&mut log))?;
+    let found = answers(rt, house, 1, 9, &mut log)?;
+    Ok((stopped, found))
+}
+
 #[test]
-fn an_entry_whose_lease_has_ended_is_not_taken(rt: HostRuntime) -> Result<(), Fail> {
-    let sent = [
-        (0, DECLARE),
-        (0, WRITE_7),
-        (600, WRITE_5),
-        (1000, TAKE),
-        (1600, TAKE),
-    ];
-    let found = answers_to(&rt, &sent)?;
+fn what_a_full_log_left_is_finished_later(rt: HostRuntime) -> Result<(), Fail> {
+    let mut house = house(&rt)?;
+    let (stopped, found) = stopped_and_finished(&rt, &mut house)?;
     let wanted = concat!(
         "{\"id\":1,\"ok\":null}\n",
-        "{\"id\":2,\"ok\":{\"lease\":1,\"ms\":1000}}\n",
-        "{\"id\":3,\"ok\":{\"lease\":2,\"ms\":1000}}\n",
-        "{\"id\":4,\"ok\":{\"class\":\"Job\",\"fields\":{\"k\":5}}}\n",
-        "{\"id\":4,\"ok\":null}\n",
+        "{\"id\":2,\"ok\":{\"lease\":2,\"ms\":1000}}\n",
+        "{\"id\":4,\"ok\":{\"class\":\"Job\",\"fields\":{\"k\":7}}}\n",
     );
+    let full = Stopped {
+        why: Why::EraFull,
+        done: true,
+    };
+    assert_eq!(rt; stopped, full);
     assert_eq!(rt; found.as_slice(), wanted.as_bytes());
-    Ok(())
-}
-
-// The first session that has answers: before any request, after one of session 2, and after one of
-// session 1 too.
-fn first_of_two(rt: &HostRuntime, house: &mut RowsHouse) -> Result<[Option<u64>; 3], Fail> {
-    let mut log = Vec::new(rt.alloc());
-    opens(house, 1, &mut log)?;
-    opens(house, 2, &mut log)?;
-    let before = house.first_waiting();
-    sends(rt, house, 2, TAKE, &mut log)?;
-    let between = house.first_waiting();
-    sends(rt, house, 1, TAKE, &mut log)?;
-    Ok([before, between, house.first_waiting()])
-}
-
-#[test]
-fn the_least_session_with_answers_comes_first(rt: HostRuntime) -> Result<(), Fail> {
-    let mut house = house(&rt)?;
-    let found = first_of_two(&rt, &mut house)?;
-    assert_eq!(rt; found, [None, Some(2), Some(1)]);
-    Ok(())
-}
-
-// Which of the sessions 1 and 2 are open once both were opened and 1 was shut.
-fn open_of_two(rt: &HostRuntime, house: &mut RowsHouse) -> Result<(bool, bool), Fail> {
-    let mut log = Vec::new(rt.alloc());
-    opens(house, 1, &mut log)?;
-    opens(house, 2, &mut log)?;
-    log.reserve(1)?;
-    house.shut(1, &mut log);
-    Ok((house.is_open(1), house.is_open(2)))
-}
-
-#[test]
-fn a_session_that_was_shut_is_not_open(rt: HostRuntime) -> Result<(), Fail> {
-    let mut house = house(&rt)?;
-    let found = open_of_two(&rt, &mut house)?;
-    assert_eq!(rt; found, (false, true));
     Ok(())
 }
 

@@ -2,3 +2,5 @@ mod Parts
 mod Asking
 mod Reading
 mod Beginnings
+mod Gathering
+mod Auditing

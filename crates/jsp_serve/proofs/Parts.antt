@@ -1,6 +1,6 @@
 -- The parts of a line, and its numbers.
 use Rattle.std.proofs.Common.{◌≡◌, ℕ, ◌+◌, ◌-◌, ◌<◌, ◌≤◌, List, [], ◌∷◌, Bool, true, false, cond, nat_lt, refl, ap, sym, ◌∙◌, length, take, drop, get_or, arith, Some, None, inl, inr, Result, Ok, Err, subst, length-drop}
-use Rattle.std.specs.Prelude.{position}
+use Rattle.std.specs.Prelude.{position, codes}
 use Rattle.std.specs.List.{list_any, position_or_len}
 use Rattle.std.specs.Str.{IsUtf8}
 use Rattle.std.specs.Str.Parse.{IsNumeral}
@@ -68,13 +68,14 @@ digits_are_text text h = IsUtf8-from_ascii text (λ i. below i (nat_lt i (length
 pub empty_is_no_number : (text : List ℕ) (n : ℕ) → text ≡ [] → Names text n → ⊥
 empty_is_no_number text n e h = let none : length text ≡ 0 = ap length e in absurd (omega (arith, h.0.0))
 
--- a line without a blank asks for nothing
-pub one_part_asks_nothing : (line : List ℕ) → list_any is_blank line ≡ false → (a : Act) → IsActOf line a → ⊥
-one_part_asks_nothing line h (act.Open s) is = empty_is_no_number (other_parts line) s (nothing_behind line h) is.1
-one_part_asks_nothing line h (act.Shut s) is = empty_is_no_number (other_parts line) s (nothing_behind line h) is.1
-one_part_asks_nothing line h (act.Piece s bytes) (inl is) = empty_is_no_number (first_part (other_parts line)) s (ap first_part (nothing_behind line h)) is.1.session
-one_part_asks_nothing line h (act.Piece s bytes) (inr is) = empty_is_no_number (first_part (other_parts line)) s (ap first_part (nothing_behind line h)) is.1.session
-one_part_asks_nothing line h (act.Clock t) is = empty_is_no_number (other_parts line) t (nothing_behind line h) is.1
+-- a line without a blank asks for nothing, but for a turn
+pub one_part_asks_nothing : (line : List ℕ) → list_any is_blank line ≡ false → (line ≡ codes "settle" → ⊥) → (a : Act) → IsActOf line a → ⊥
+one_part_asks_nothing line h apart (act.Open s) is = empty_is_no_number (other_parts line) s (nothing_behind line h) is.1
+one_part_asks_nothing line h apart (act.Shut s) is = empty_is_no_number (other_parts line) s (nothing_behind line h) is.1
+one_part_asks_nothing line h apart (act.Piece s bytes) (inl is) = empty_is_no_number (first_part (other_parts line)) s (ap first_part (nothing_behind line h)) is.1.session
+one_part_asks_nothing line h apart (act.Piece s bytes) (inr is) = empty_is_no_number (first_part (other_parts line)) s (ap first_part (nothing_behind line h)) is.1.session
+one_part_asks_nothing line h apart act.Settle is = apart is
+one_part_asks_nothing line h apart (act.Clock t) is = empty_is_no_number (other_parts line) t (nothing_behind line h) is.1
 
 -- nor does a text without a blank name bytes to send
 pub one_part_sends_nothing : (rest : List ℕ) (s : ℕ) (bytes : List ℕ) → list_any is_blank rest ≡ false → SendsRaw rest s bytes → ⊥

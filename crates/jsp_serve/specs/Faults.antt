@@ -14,6 +14,7 @@ words_of fault.CannotRead = codes "cannot read"
 words_of fault.TooLong = codes "input too long"
 words_of (fault.NotUnderstood number) = codes "line " ++ decimal number ++ codes ": not understood"
 words_of fault.NoMemory = codes "out of memory"
+words_of fault.DoesNotReplay = codes "the history doesn't replay"
 words_of fault.CannotWrite = codes "cannot write"
 
 -- the line that tells of a fault
@@ -47,14 +48,17 @@ ReadsNone known fault.CannotRead = ⊤
 ReadsNone known fault.TooLong = IfSome known (λ text. 2 ^ 24 < length text)
 ReadsNone known (fault.NotUnderstood number) = ⊥
 ReadsNone known fault.NoMemory = ⊤
+ReadsNone known fault.DoesNotReplay = ⊥
 ReadsNone known fault.CannotWrite = ⊥
 
--- The fault applies to the text, where that is known. Nothing of it was written, but where the writer failed.
+-- The fault applies to the text, where that is known. Nothing of it was written, but where the writer failed. A history
+-- that doesn't replay never applies.
 abbrev pub StopsBy : List (List ℕ) → Option (List ℕ) → Option (List ℕ) → Option (List ℕ) → ScriptFault → Type 0
 StopsBy spaces known old new fault.CannotRead = Keeps old new
 StopsBy spaces known old new fault.TooLong = IfSome known (λ text. 2 ^ 24 < length text) × Keeps old new
 StopsBy spaces known old new (fault.NotUnderstood number) = IfSome known (λ text. IsRefusedAt text number) × Keeps old new
 StopsBy spaces known old new fault.NoMemory = Keeps old new
+StopsBy spaces known old new fault.DoesNotReplay = ⊥
 StopsBy spaces known old new fault.CannotWrite = IfSome known (λ text. WroteSome spaces text old new)
 
 -- A fault applies, and one line tells of it: the whole of it where that is claimed, and else a beginning.

@@ -1,4 +1,5 @@
 pub mod Script
+pub mod Audit
 pub mod Print
 pub mod Faults
 pub mod Exit

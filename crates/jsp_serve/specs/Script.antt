@@ -47,7 +47,7 @@ pub record SendsRaw (rest : List ℕ) (s : ℕ) (bytes : List ℕ) : Type 0 wher
   pub session : Names (first_part rest) s
   pub bytes_are : IsHexOf (other_parts rest) bytes
 
--- `open c`, `shut c`, `send c JSON`, `hex c HEX`, or `clock t`
+-- `open c`, `shut c`, `send c JSON`, `hex c HEX`, `clock t`, or `settle`
 abbrev pub IsActOf : List ℕ → Act → Type 0
 IsActOf line (act.Open s) = (first_part line ≡ codes "open") × Names (other_parts line) s
 IsActOf line (act.Shut s) = (first_part line ≡ codes "shut") × Names (other_parts line) s
@@ -55,6 +55,7 @@ IsActOf line (act.Piece s bytes) =
     ((first_part line ≡ codes "send") × Sends (other_parts line) s bytes.items)
     ⊎ ((first_part line ≡ codes "hex") × SendsRaw (other_parts line) s bytes.items)
 IsActOf line (act.Clock t) = (first_part line ≡ codes "clock") × Names (other_parts line) t
+IsActOf line act.Settle = line ≡ codes "settle"
 
 -- it isn't passed over, and asks for no act
 abbrev pub IsNotUnderstood : List ℕ → Type 0

@@ -14,6 +14,8 @@ pub(crate) enum ScriptFault {
     /// The first line that isn't understood, counted from 1.
     NotUnderstood(u64),
     NoMemory,
+    /// The steps are no run, or say something else than was sent. `script` never meets it.
+    DoesNotReplay,
     CannotWrite,
 }
 

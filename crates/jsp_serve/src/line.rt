@@ -20,10 +20,10 @@ pub(crate) enum Line {
     NotUnderstood,
 }
 
-/// Reads a line: `open c`, `send c JSON`, `hex c HEX`, `shut c` or `clock t`. c is a session's
-/// decimal number, JSON is all that is left of the line, sent as one frame, HEX is one or more pairs
-/// of hex digits, sent as these bytes, and t is a reading of the clock in milliseconds. One blank
-/// stands between parts.
+/// Reads a line: `open c`, `send c JSON`, `hex c HEX`, `shut c`, `clock t` or `settle`. c is a
+/// session's decimal number, JSON is all that is left of the line, sent as one frame, HEX is one or
+/// more pairs of hex digits, sent as these bytes, and t is a reading of the clock in milliseconds. One
+/// blank stands between parts.
 pub(crate) fn read_line(alloc: Global, line: &[u8]) -> Result<Line, NoMemory>
     requires { length line.now < 2 ^ 32 }
     ensures { IfOk result (IsReadAs line.now) }
@@ -42,6 +42,9 @@ fn act_of(alloc: Global, line: &[u8]) -> Result<Option<Act>, NoMemory>
     requires { length line.now < 2 ^ 32 }
     ensures { IfOk result (λ r. MatchOption r ((a : AnAct) → IsActOf line.now a → ⊥) (IsActOf line.now)) }
 {
+    if line == b"settle".as_slice() {
+        return Ok(Some(Act::Settle));
+    }
     let Some((kind, rest)) = split_at_blank(line) else {
         return Ok(None);
     };

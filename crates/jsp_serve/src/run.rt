@@ -6,6 +6,7 @@ ghost use Rattle.jsp_serve.specs.Print.{Prints, Wrote, IsRefused};
 ghost use Rattle.jsp_serve.specs.Faults.{AppendsSome, Fails, ReadsNone, StopsBy};
 ghost use Rattle.jsp_serve.specs.declared.fault.ScriptFault.TheVariants as fault;
 
+use crate::audit::audit;
 use crate::fault::ScriptFault;
 use crate::lines::read_acts;
 use crate::print::printed;
@@ -52,15 +53,18 @@ impl From<Status> for ExitCode {
 
 /// Runs the script that `reader` gives, at most 16,777,216 bytes, over the spaces of `config`.
 ///
-/// A line is `open c`, `send c JSON`, `hex c HEX` or `shut c`; c is the decimal number of a session,
+/// A line is `open c`, `send c JSON`, `hex c HEX` or `shut c`: c is the decimal number of a session,
 /// below 2^64, one blank stands between parts, JSON is the rest of the line, and HEX is one or more
-/// pairs of hex digits. Empty lines and lines that begin with `#` are passed over. For each answer
-/// `c JSON` is written to `out`, line by line in the order in which the answers are given. The first
-/// fault met is told on `faults` by one line. Where a line isn't understood or the input is too long,
-/// nothing is run. (This profile's own.)
+/// pairs of hex digits. Or it is `clock t`, a reading in milliseconds, or `settle`, a turn of the house.
+/// Empty lines and lines that begin with `#` are passed over. For each answer `c JSON` is written to
+/// `out`, line by line in the order in which the answers are given. The first fault met is told on
+/// `faults` by one line. Where a line isn't understood or the input is too long, nothing is run. With
+/// `audits` the run is replayed before anything is written, and compared with what was sent; that
+/// takes time and memory, and changes nothing of what is promised. (This profile's own.)
 pub fn script<R: Read, W: Write, F: Write>(
     alloc: Global,
     config: &Config,
+    audits: bool,
     reader: &mut R,
     out: &mut W,
     faults: &mut F,
@@ -72,7 +76,7 @@ pub fn script<R: Read, W: Write, F: Write>(
     // A fault that applies is told by one line, where the script failed.
     ensures failed { result.status ≡ Status.Failed → Fails config.now (R.remaining reader.old) (W.contents out.old) (W.contents out.new) (F.contents faults.old) (F.contents faults.new) result.is_told }
 {
-    match run_script(alloc, config, reader, out) {
+    match run_script(alloc, config, audits, reader, out) {
         Ok(()) => Ending {
             status: Status::Done,
             is_told: true,
@@ -87,6 +91,7 @@ pub fn script<R: Read, W: Write, F: Write>(
 fn run_script<R: Read, W: Write>(
     alloc: Global,
     config: &Config,
+    audits: bool,
     reader: &mut R,
     out: &mut W,
 ) -> Result<(), ScriptFault>
@@ -95,12 +100,17 @@ fn run_script<R: Read, W: Write>(
     ensures stops { IfErr result (StopsBy config.now (R.remaining reader.old) (W.contents out.old) (W.contents out.new)) }
 {
     let text = read_text(alloc, reader)?;
-    let printed = answers(alloc, config, text.as_slice())?;
+    let printed = answers(alloc, config, audits, text.as_slice())?;
     write_text(out, printed.as_slice())
 }
 
 /// The lines that a script of this text prints.
-pub(crate) fn answers(alloc: Global, config: &Config, text: &[u8]) -> Result<Vec<u8>, ScriptFault>
+pub(crate) fn answers(
+    alloc: Global,
+    config: &Config,
+    audits: bool,
+    text: &[u8],
+) -> Result<Vec<u8>, ScriptFault>
     requires { length text.now ≤ 2 ^ 24 }
     ensures prints { IfOk result (λ printed. Prints config.now text.now printed.items) }
     ensures fault { IfErr result (FailsBy (lines_of text.now)) }
@@ -108,6 +118,14 @@ pub(crate) fn answers(alloc: Global, config: &Config, text: &[u8]) -> Result<Vec
     let acts = read_acts(alloc, text)?;
     let house = RowsHouse::new(alloc, config)?;
     let driven = drive(alloc, house, config, acts.as_slice())?;
+    if audits {
+        audit(
+            alloc,
+            config,
+            driven.steps.as_slice(),
+            driven.sent.as_slice(),
+        )?;
+    }
     Ok(printed(alloc, driven.sent.as_slice())?)
 }
 

@@ -1,5 +1,7 @@
 //! What no script file can show: readers and writers that fail, and calls of the parts. Whole scripts and what they
 //! print are in `examples/` of the repository.
+use crate::audit::audit;
+use crate::fault::ScriptFault;
 use crate::{Ending, Status, script};
 use jsp_drive::{Act, drive};
 use jsp_rows::{Config, RowsHouse};
@@ -23,7 +25,7 @@ fn one_space(alloc: Global) -> Result<Config, Fail> {
 fn ends(alloc: Global, reader: &mut impl Read, out: &mut impl Write) -> Result<String, Fail> {
     let config = one_space(alloc)?;
     let mut faults = Vec::new(alloc);
-    let ending = match script(alloc, &config, reader, out, &mut faults) {
+    let ending = match script(alloc, &config, true, reader, out, &mut faults) {
         Ending { is_told: false, .. } => "untold",
         Ending {
             status: Status::Done,
@@ -123,6 +125,7 @@ fn a_fault_that_cannot_be_told_is_still_a_failure(rt: HostRuntime) -> Result<(),
     let ending = script(
         alloc,
         &config,
+        false,
         &mut "what".as_bytes(),
         &mut out,
         &mut Breaks,
@@ -152,5 +155,30 @@ fn the_bytes_of_a_session_are_its_frames(rt: HostRuntime) -> Result<(), Fail> {
     let wanted =
         b"\x00\x00\x00\x15{\"fault\":2,\"id\":null}\x00\x00\x00\x15{\"fault\":1,\"id\":null}";
     assert_eq!(rt; driven.bytes_of(alloc, 7)?.as_slice(), wanted.as_slice());
+    Ok(())
+}
+
+#[test]
+fn a_history_that_lacks_something_does_not_replay(rt: HostRuntime) -> Result<(), Fail> {
+    let alloc = rt.alloc();
+    let config = one_space(alloc)?;
+    let mut acts = Vec::new(alloc);
+    acts.push(Act::Open { session: 7 })?;
+    let bytes = Vec::from_slice(alloc, b"\x00\x00\x00\x02{}\x00\x00\x00\x00")?;
+    acts.push(Act::Piece { session: 7, bytes })?;
+    acts.push(Act::Settle)?;
+    let driven = drive(
+        alloc,
+        RowsHouse::new(alloc, &config)?,
+        &config,
+        acts.as_slice(),
+    )?;
+    let (steps, sent) = (driven.steps.as_slice(), driven.sent.as_slice());
+    assert_eq!(rt; audit(alloc, &config, steps, sent), Ok(()));
+    let differs = Err(ScriptFault::DoesNotReplay);
+    let fewer = steps.get(1..).ok_or("no steps")?;
+    assert_eq!(rt; audit(alloc, &config, fewer, sent), differs);
+    let less = sent.get(1..).ok_or("nothing sent")?;
+    assert_eq!(rt; audit(alloc, &config, steps, less), differs);
     Ok(())
 }

@@ -37,6 +37,7 @@ pub(crate) fn tell<F: Write>(faults: &mut F, fault: ScriptFault) -> bool
         ScriptFault::TooLong => write_bytes(faults, b"jsp: input too long\n"),
         ScriptFault::NotUnderstood(number) => tell_line(faults, number),
         ScriptFault::NoMemory => write_bytes(faults, b"jsp: out of memory\n"),
+        ScriptFault::DoesNotReplay => write_bytes(faults, b"jsp: the history doesn't replay\n"),
         ScriptFault::CannotWrite => write_bytes(faults, b"jsp: cannot write\n"),
     }
 }

@@ -1,5 +1,6 @@
 -- A few payloads, computed.
-use Rattle.std.proofs.Common.{◌≡◌, [], ◌∷◌, codes, pos, negsuc, None, Some, refl}
+use Rattle.std.proofs.Common.{◌≡◌, ℕ, List, [], ◌∷◌, ◌++◌, replicate, codes, pos, negsuc, None, Some, refl}
+use Rattle.std.specs.List.{repeat}
 use Rattle.std.specs.Str.{is_utf8, chars}
 use Rattle.std.specs.Char.{encode_utf8}
 use Rattle.serde_json.proofs.OnLiterals.{serde_json_on_literals}
@@ -7,7 +8,7 @@ use Rattle.jsp_types.specs.declared.value.Kind.TheVariants as kind
 use Rattle.jsp_types.specs.declared.value.Value.TheVariants as value
 use Rattle.jsp_wire.specs.declared.ask.Ask.TheVariants as ask
 use Rattle.jsp_wire.specs.Parts.{raw_of}
-use Rattle.jsp_wire.specs.Operations.{declare_of, write_of, search_of, renew_of, cancel_of, renew_all_of, cancel_all_of, keyless_of, ask_of}
+use Rattle.jsp_wire.specs.Operations.{declare_of, write_of, search_of, notify_of, renew_of, cancel_of, renew_all_of, cancel_all_of, begin_of, transaction_of, reset_of, keyless_of, ask_of}
 use Rattle.jsp_wire.specs.Reading.{request, bad_json, bad_request, request_of, reading}
 
 unknown_key : reading (codes "{\"id\":5,\"op\":\"declare\",\"class\":\"J\",\"fields\":{},\"x\":1}") ≡ bad_request (Some 5)
@@ -45,14 +46,56 @@ a_take : reading (codes "{\"id\":3,\"op\":\"take\",\"space\":\"a\",\"template\":
 unfolding serde_json_on_literals is_utf8 chars encode_utf8 reading request_of ask_of search_of raw_of
 a_take = refl
 
-waiting_is_not_built : reading (codes "{\"id\":3,\"op\":\"take\",\"space\":\"a\",\"template\":null,\"timeout\":1}") ≡ bad_request (Some 3)
+a_take_that_waits : reading (codes "{\"id\":3,\"op\":\"take\",\"space\":\"a\",\"template\":null,\"timeout\":60000,\"txn\":7}")
+    ≡ request (record { id = 3; ask = ask.Take (record { space = codes "a"; template = None; timeout = pos 60000; txn = Some (pos 7) }) })
 unfolding serde_json_on_literals is_utf8 chars encode_utf8 reading request_of ask_of search_of
-waiting_is_not_built = refl
+a_take_that_waits = refl
+
+a_take_without_a_template : reading (codes "{\"id\":3,\"op\":\"take\",\"space\":\"a\",\"timeout\":0}") ≡ bad_request (Some 3)
+unfolding serde_json_on_literals is_utf8 chars encode_utf8 reading request_of ask_of search_of
+a_take_without_a_template = refl
+
+-- a negative number is a number as others
+a_read_for_a_negative_time : reading (codes "{\"id\":3,\"op\":\"read\",\"space\":\"a\",\"template\":null,\"timeout\":-1}")
+    ≡ request (record { id = 3; ask = ask.Read (record { space = codes "a"; template = None; timeout = negsuc 0; txn = None }) })
+unfolding serde_json_on_literals is_utf8 chars encode_utf8 reading request_of ask_of search_of
+a_read_for_a_negative_time = refl
+
+a_read_without_a_timeout : reading (codes "{\"id\":3,\"op\":\"read\",\"space\":\"a\",\"template\":null}") ≡ bad_request (Some 3)
+unfolding serde_json_on_literals is_utf8 chars encode_utf8 reading request_of ask_of search_of
+a_read_without_a_timeout = refl
+
+a_read_if : reading (codes "{\"id\":3,\"op\":\"read_if\",\"space\":\"a\",\"template\":null,\"timeout\":9,\"txn\":-7}")
+    ≡ request (record { id = 3; ask = ask.ReadIf (record { space = codes "a"; template = None; timeout = pos 9; txn = Some (negsuc 6) }) })
+unfolding serde_json_on_literals is_utf8 chars encode_utf8 reading request_of ask_of search_of
+a_read_if = refl
+
+a_read_if_for_null : reading (codes "{\"id\":3,\"op\":\"read_if\",\"space\":\"a\",\"template\":null,\"timeout\":null}") ≡ bad_request (Some 3)
+unfolding serde_json_on_literals is_utf8 chars encode_utf8 reading request_of ask_of search_of
+a_read_if_for_null = refl
+
+a_take_if : reading (codes "{\"id\":3,\"op\":\"take_if\",\"space\":\"a\",\"template\":null,\"timeout\":0}")
+    ≡ request (record { id = 3; ask = ask.TakeIf (record { space = codes "a"; template = None; timeout = pos 0; txn = None }) })
+unfolding serde_json_on_literals is_utf8 chars encode_utf8 reading request_of ask_of search_of
+a_take_if = refl
+
+a_take_if_of_more : reading (codes "{\"id\":3,\"op\":\"take_if\",\"space\":\"a\",\"template\":null,\"timeout\":0,\"most\":2}") ≡ bad_request (Some 3)
+unfolding serde_json_on_literals is_utf8 chars encode_utf8 reading request_of ask_of search_of
+a_take_if_of_more = refl
 
 a_write_for_any_time : reading (codes "{\"id\":2,\"op\":\"write\",\"space\":\"a\",\"entry\":{\"class\":\"J\",\"fields\":{}},\"lease\":-1}")
     ≡ request (record { id = 2; ask = ask.Write (record { space = codes "a"; entry = record { class = codes "J"; fields = [] }; lease = negsuc 0; txn = None }) })
 unfolding serde_json_on_literals is_utf8 chars encode_utf8 reading request_of ask_of write_of raw_of
 a_write_for_any_time = refl
+
+a_write_under_a_transaction : reading (codes "{\"id\":2,\"op\":\"write\",\"space\":\"a\",\"entry\":{\"class\":\"J\",\"fields\":{}},\"lease\":9,\"txn\":7}")
+    ≡ request (record { id = 2; ask = ask.Write (record { space = codes "a"; entry = record { class = codes "J"; fields = [] }; lease = pos 9; txn = Some (pos 7) }) })
+unfolding serde_json_on_literals is_utf8 chars encode_utf8 reading request_of ask_of write_of raw_of
+a_write_under_a_transaction = refl
+
+a_write_under_a_text : reading (codes "{\"id\":2,\"op\":\"write\",\"space\":\"a\",\"entry\":{\"class\":\"J\",\"fields\":{}},\"lease\":9,\"txn\":\"7\"}") ≡ bad_request (Some 2)
+unfolding serde_json_on_literals is_utf8 chars encode_utf8 reading request_of ask_of write_of raw_of
+a_write_under_a_text = refl
 
 a_renewal : reading (codes "{\"id\":4,\"op\":\"renew\",\"lease\":7,\"ms\":9}") ≡ request (record { id = 4; ask = ask.Renew (pos 7) (pos 9) })
 unfolding serde_json_on_literals is_utf8 chars encode_utf8 reading request_of ask_of renew_of
@@ -78,3 +121,79 @@ cancels = refl
 an_empty_list : reading (codes "{\"id\":4,\"op\":\"cancel_all\",\"leases\":[]}") ≡ bad_request (Some 4)
 unfolding serde_json_on_literals is_utf8 chars encode_utf8 reading request_of ask_of cancel_all_of
 an_empty_list = refl
+
+a_registration : reading (codes "{\"id\":6,\"op\":\"notify\",\"space\":\"a\",\"template\":null,\"lease\":-1,\"handback\":\"h\",\"txn\":7}")
+    ≡ request (record { id = 6; ask = ask.Notify (record { space = codes "a"; template = None; lease = negsuc 0; handback = codes "h"; txn = Some (pos 7) }) })
+unfolding serde_json_on_literals is_utf8 chars encode_utf8 reading request_of ask_of notify_of
+a_registration = refl
+
+a_registration_without_handback : reading (codes "{\"id\":6,\"op\":\"notify\",\"space\":\"a\",\"template\":null,\"lease\":9}") ≡ bad_request (Some 6)
+unfolding serde_json_on_literals is_utf8 chars encode_utf8 reading request_of ask_of notify_of
+a_registration_without_handback = refl
+
+-- a registration with that handback
+abbrev registration_of : List ℕ → List ℕ
+registration_of handback = codes "{\"id\":6,\"op\":\"notify\",\"space\":\"a\",\"template\":null,\"lease\":9,\"handback\":\"" ++ handback ++ codes "\"}"
+
+the_longest_handback : reading (registration_of (replicate 256 104))
+    ≡ request (record { id = 6; ask = ask.Notify (record { space = codes "a"; template = None; lease = pos 9; handback = replicate 256 104; txn = None }) })
+unfolding serde_json_on_literals is_utf8 chars encode_utf8 reading request_of ask_of notify_of
+the_longest_handback = refl
+
+a_longer_handback : reading (registration_of (replicate 257 104)) ≡ bad_request (Some 6)
+unfolding serde_json_on_literals is_utf8 chars encode_utf8 reading request_of ask_of notify_of
+a_longer_handback = refl
+
+-- the bytes of the text count, and not its characters or how the payload writes them
+the_longest_handback_in_pairs : reading (registration_of (repeat 128 (codes "\\u00e9")))
+    ≡ request (record { id = 6; ask = ask.Notify (record { space = codes "a"; template = None; lease = pos 9; handback = repeat 128 (195 ∷ 169 ∷ []); txn = None }) })
+unfolding serde_json_on_literals is_utf8 chars encode_utf8 reading request_of ask_of notify_of
+the_longest_handback_in_pairs = refl
+
+a_longer_handback_in_pairs : reading (registration_of (repeat 129 (codes "\\u00e9"))) ≡ bad_request (Some 6)
+unfolding serde_json_on_literals is_utf8 chars encode_utf8 reading request_of ask_of notify_of
+a_longer_handback_in_pairs = refl
+
+a_transaction : reading (codes "{\"id\":7,\"op\":\"txn\",\"lease\":60000}") ≡ request (record { id = 7; ask = ask.Txn (pos 60000) })
+unfolding serde_json_on_literals is_utf8 chars encode_utf8 reading request_of ask_of begin_of
+a_transaction = refl
+
+a_transaction_without_a_lease : reading (codes "{\"id\":7,\"op\":\"txn\"}") ≡ bad_request (Some 7)
+unfolding serde_json_on_literals is_utf8 chars encode_utf8 reading request_of ask_of begin_of
+a_transaction_without_a_lease = refl
+
+a_commit : reading (codes "{\"id\":8,\"op\":\"commit\",\"txn\":7}") ≡ request (record { id = 8; ask = ask.Commit (pos 7) })
+unfolding serde_json_on_literals is_utf8 chars encode_utf8 reading request_of ask_of transaction_of
+a_commit = refl
+
+a_commit_of_null : reading (codes "{\"id\":8,\"op\":\"commit\",\"txn\":null}") ≡ bad_request (Some 8)
+unfolding serde_json_on_literals is_utf8 chars encode_utf8 reading request_of ask_of transaction_of
+a_commit_of_null = refl
+
+an_abort : reading (codes "{\"id\":8,\"op\":\"abort\",\"txn\":-7}") ≡ request (record { id = 8; ask = ask.Abort (negsuc 6) })
+unfolding serde_json_on_literals is_utf8 chars encode_utf8 reading request_of ask_of transaction_of
+an_abort = refl
+
+an_abort_of_nothing : reading (codes "{\"id\":8,\"op\":\"abort\"}") ≡ bad_request (Some 8)
+unfolding serde_json_on_literals is_utf8 chars encode_utf8 reading request_of ask_of transaction_of
+an_abort_of_nothing = refl
+
+a_state : reading (codes "{\"id\":8,\"op\":\"state\",\"txn\":7}") ≡ request (record { id = 8; ask = ask.State (pos 7) })
+unfolding serde_json_on_literals is_utf8 chars encode_utf8 reading request_of ask_of transaction_of
+a_state = refl
+
+a_state_of_a_lease : reading (codes "{\"id\":8,\"op\":\"state\",\"txn\":7,\"lease\":7}") ≡ bad_request (Some 8)
+unfolding serde_json_on_literals is_utf8 chars encode_utf8 reading request_of ask_of transaction_of
+a_state_of_a_lease = refl
+
+a_reset : reading (codes "{\"id\":9,\"op\":\"reset\",\"space\":\"a\"}") ≡ request (record { id = 9; ask = ask.Reset (codes "a") })
+unfolding serde_json_on_literals is_utf8 chars encode_utf8 reading request_of ask_of reset_of
+a_reset = refl
+
+a_reset_of_a_number : reading (codes "{\"id\":9,\"op\":\"reset\",\"space\":1}") ≡ bad_request (Some 9)
+unfolding serde_json_on_literals is_utf8 chars encode_utf8 reading request_of ask_of reset_of
+a_reset_of_a_number = refl
+
+the_second_version : reading (codes "{\"id\":9,\"op\":\"hello\",\"version\":2}") ≡ bad_request (Some 9)
+unfolding serde_json_on_literals is_utf8 chars encode_utf8 reading request_of ask_of
+the_second_version = refl

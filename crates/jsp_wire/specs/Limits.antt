@@ -1,9 +1,8 @@
 -- The limits that each request keeps, and which operations are built.
-use Rattle.std.specs.Prelude.{ℕ, ℤ, pos, negsuc, ◌^◌, Bool, true, false, ◌&&◌, ◌==◌, nat_lt, nat_le, length, if◌then◌else◌, Option, Some, None, is_none}
+use Rattle.std.specs.Prelude.{ℕ, ◌^◌, Bool, true, false, ◌&&◌, nat_lt, nat_le, length, if◌then◌else◌, Option, Some, None}
 use Rattle.jsp_wire.specs.declared.ask.Ask.{Ask}
 use Rattle.jsp_wire.specs.declared.ask.Ask.TheVariants as ask
 use Rattle.jsp_wire.specs.declared.ask.Request.{Request}
-use Rattle.jsp_wire.specs.declared.ask.Search.{Search}
 
 abbrev pub is_between : ℕ → ℕ → ℕ → Bool
 is_between low high n = nat_le low n && nat_le n high
@@ -18,25 +17,24 @@ has_fitting_parts (ask.TakeMany q) = is_between 1 8 (length q.templates) && is_b
 has_fitting_parts (ask.Next set most) = is_between 1 16 most
 has_fitting_parts _ = true
 
-abbrev pub is_zero : ℤ → Bool
-is_zero (pos n) = n == 0
-is_zero (negsuc n) = false
-
--- a request for rows that doesn't wait, and is under no transaction
-abbrev pub is_plain : Search → Bool
-is_plain q = is_zero q.timeout && is_none q.txn
-
--- What is built by now; it grows with the program, and the rest is refused as no request. Nothing waits, and there are
--- no transactions.
+-- What is built: all of the first version of the protocol. What the second one adds is refused as no request.
 abbrev pub is_built : Ask → Bool
 is_built (ask.Declare d) = true
-is_built (ask.Write w) = is_none w.txn
-is_built (ask.Read q) = is_plain q
-is_built (ask.Take q) = is_plain q
+is_built (ask.Write w) = true
+is_built (ask.Read q) = true
+is_built (ask.ReadIf q) = true
+is_built (ask.Take q) = true
+is_built (ask.TakeIf q) = true
+is_built (ask.Notify q) = true
 is_built (ask.Renew lease ms) = true
 is_built (ask.Cancel lease) = true
 is_built (ask.RenewAll leases) = true
 is_built (ask.CancelAll leases) = true
+is_built (ask.Txn lease) = true
+is_built (ask.Commit txn) = true
+is_built (ask.Abort txn) = true
+is_built (ask.State txn) = true
+is_built (ask.Reset space) = true
 is_built ask.Spaces = true
 is_built ask.Bye = true
 is_built _ = false

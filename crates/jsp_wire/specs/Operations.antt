@@ -1,5 +1,5 @@
 -- The operations, each with the keys of its object.
-use Rattle.std.specs.Prelude.{ℕ, List, [], ◌∷◌, if◌then◌else◌, Option, Some, None, option_map, codes}
+use Rattle.std.specs.Prelude.{ℕ, ℤ, List, [], ◌∷◌, if◌then◌else◌, Option, Some, None, option_map, codes}
 use Rattle.std.specs.Str.{bytes_eq}
 use Rattle.serde_json.specs.Data.{Data}
 use Rattle.jsp_wire.specs.declared.ask.Ask.{Ask}
@@ -34,6 +34,16 @@ search_of d = do
   txn ← optional_number_at (codes "txn") d
   Some (record { space = space; template = template; timeout = timeout; txn = txn })
 
+unfoldable pub notify_of : Data → Option Ask
+notify_of d = do
+  _ ← only (codes "id" ∷ codes "op" ∷ codes "space" ∷ codes "template" ∷ codes "lease" ∷ codes "handback" ∷ codes "txn" ∷ []) d
+  space ← text_at (codes "space") d
+  template ← template_at (codes "template") d
+  lease ← number_at (codes "lease") d
+  handback ← text_at (codes "handback") d
+  txn ← optional_number_at (codes "txn") d
+  Some (ask.Notify (record { space = space; template = template; lease = lease; handback = handback; txn = txn }))
+
 unfoldable pub renew_of : Data → Option Ask
 renew_of d = do
   _ ← only (codes "id" ∷ codes "op" ∷ codes "lease" ∷ codes "ms" ∷ []) d
@@ -60,6 +70,26 @@ cancel_all_of d = do
   leases ← numbers_at (codes "leases") d
   Some (ask.CancelAll leases)
 
+-- a transaction to be begun
+unfoldable pub begin_of : Data → Option Ask
+begin_of d = do
+  _ ← only (codes "id" ∷ codes "op" ∷ codes "lease" ∷ []) d
+  lease ← number_at (codes "lease") d
+  Some (ask.Txn lease)
+
+-- the transaction that an operation is about, which can't be null
+unfoldable pub transaction_of : Data → Option ℤ
+transaction_of d = do
+  _ ← only (codes "id" ∷ codes "op" ∷ codes "txn" ∷ []) d
+  txn ← number_at (codes "txn") d
+  Some txn
+
+unfoldable pub reset_of : Data → Option Ask
+reset_of d = do
+  _ ← only (codes "id" ∷ codes "op" ∷ codes "space" ∷ []) d
+  space ← text_at (codes "space") d
+  Some (ask.Reset space)
+
 -- an operation without keys of its own
 unfoldable pub keyless_of : Ask → Data → Option Ask
 keyless_of a d = do
@@ -72,11 +102,19 @@ ask_of name d =
     if bytes_eq name (codes "declare") then declare_of d
     else (if bytes_eq name (codes "write") then write_of d
     else (if bytes_eq name (codes "read") then option_map ask.Read (search_of d)
+    else (if bytes_eq name (codes "read_if") then option_map ask.ReadIf (search_of d)
     else (if bytes_eq name (codes "take") then option_map ask.Take (search_of d)
+    else (if bytes_eq name (codes "take_if") then option_map ask.TakeIf (search_of d)
+    else (if bytes_eq name (codes "notify") then notify_of d
     else (if bytes_eq name (codes "renew") then renew_of d
     else (if bytes_eq name (codes "cancel") then cancel_of d
     else (if bytes_eq name (codes "renew_all") then renew_all_of d
     else (if bytes_eq name (codes "cancel_all") then cancel_all_of d
+    else (if bytes_eq name (codes "txn") then begin_of d
+    else (if bytes_eq name (codes "commit") then option_map ask.Commit (transaction_of d)
+    else (if bytes_eq name (codes "abort") then option_map ask.Abort (transaction_of d)
+    else (if bytes_eq name (codes "state") then option_map ask.State (transaction_of d)
+    else (if bytes_eq name (codes "reset") then reset_of d
     else (if bytes_eq name (codes "spaces") then keyless_of ask.Spaces d
     else (if bytes_eq name (codes "bye") then keyless_of ask.Bye d
-    else None)))))))))
+    else None)))))))))))))))))

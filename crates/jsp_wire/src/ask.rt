@@ -35,8 +35,7 @@ pub struct WriteAll {
     pub txn: Option<i64>,
 }
 
-/// An entry to be read or taken (JavaSpaces). The timeout is in milliseconds. In an `Asked` it is 0 by
-/// now, and there is no transaction.
+/// An entry to be read or taken (JavaSpaces). The timeout is in milliseconds.
 #[derive(Drop)]
 pub struct Search {
     pub space: Text,
@@ -55,7 +54,8 @@ pub struct TakeMany {
     pub txn: Option<i64>,
 }
 
-/// A registration for events.
+/// A registration for events. In an `Asked` the handback has at most 256 bytes, a limit of this
+/// profile's own.
 #[derive(Drop)]
 pub struct Notify {
     pub space: Text,

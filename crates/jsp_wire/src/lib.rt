@@ -4,8 +4,8 @@
 //! own keys. `read_ask` gives the request, or the one fault that the payload is, with its id where
 //! it has one. Its contract is exact both ways, memory apart: `specs/Reading.antt` says what a
 //! payload is, `specs/Operations.antt` which keys each operation has, and `specs/Limits.antt` which
-//! limits a request keeps and which operations are built by now. An `Asked` holds those limits in
-//! its type.
+//! limits a request keeps and which operations are built: all of the first version of the protocol.
+//! An `Asked` holds both in its type.
 #![tactic(auto)]
 
 mod ask;

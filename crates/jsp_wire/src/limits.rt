@@ -1,8 +1,8 @@
 //! The limits of a request, and which operations are built.
 ghost use Rattle.std.specs.Prelude.{◌≡◌};
-ghost use Rattle.jsp_wire.specs.Limits.{is_between, has_fitting_parts, is_plain, is_built, is_within_limits};
+ghost use Rattle.jsp_wire.specs.Limits.{is_between, has_fitting_parts, is_built, is_within_limits};
 
-use crate::{Ask, Request, Search};
+use crate::{Ask, Request};
 
 fn is_between(low: usize, high: usize, n: usize) -> bool
     ensures { result ≡ is_between low high n }
@@ -33,23 +33,25 @@ fn is_built(ask: &Ask) -> bool
 {
     match ask {
         Ask::Declare(_) => true,
-        Ask::Write(write) => write.txn.is_none(),
-        Ask::Read(search) => is_plain(search),
-        Ask::Take(search) => is_plain(search),
+        Ask::Write(_) => true,
+        Ask::Read(_) => true,
+        Ask::ReadIf(_) => true,
+        Ask::Take(_) => true,
+        Ask::TakeIf(_) => true,
+        Ask::Notify(_) => true,
         Ask::Renew { .. } => true,
         Ask::Cancel { .. } => true,
         Ask::RenewAll { .. } => true,
         Ask::CancelAll { .. } => true,
+        Ask::Txn { .. } => true,
+        Ask::Commit { .. } => true,
+        Ask::Abort { .. } => true,
+        Ask::State { .. } => true,
+        Ask::Reset { .. } => true,
         Ask::Spaces => true,
         Ask::Bye => true,
         _ => false,
     }
-}
-
-fn is_plain(search: &Search) -> bool
-    ensures { result ≡ is_plain search.now }
-{
-    search.timeout == 0 && search.txn.is_none()
 }
 
 /// Whether the request keeps its limits and its operation is built.

@@ -2,7 +2,7 @@
 ghost use Rattle.std.specs.Prelude.{Some};
 ghost use Rattle.serde_json.specs.View.{view};
 ghost use Rattle.jsp_wire.specs.Parts.{Gives};
-ghost use Rattle.jsp_wire.specs.Operations.{declare_of, write_of, search_of, renew_of, cancel_of, renew_all_of, cancel_all_of, keyless_of, ask_of};
+ghost use Rattle.jsp_wire.specs.Operations.{declare_of, write_of, search_of, notify_of, renew_of, cancel_of, renew_all_of, cancel_all_of, begin_of, transaction_of, reset_of, keyless_of, ask_of};
 ghost use Rattle.jsp_wire.specs.Reading.{Answers, Parses, json_of, request_of, reading_of, reading};
 
 use crate::fault::{Flaw, WireFault};
@@ -11,7 +11,7 @@ use crate::field::{
     text_at,
 };
 use crate::list::{numbers_at, pairs_at};
-use crate::{Ask, Asked, Declare, Request, Search, Write};
+use crate::{Ask, Asked, Declare, Notify, Request, Search, Write};
 use serde_json::Value as Json;
 use std::alloc::Global;
 
@@ -64,6 +64,28 @@ fn search(alloc: Global, json: &Json) -> Result<Search, Flaw>
     })
 }
 
+#[tactic(auto, unfolding(crate::specs::Operations::notify_of))]
+fn notify(alloc: Global, json: &Json) -> Result<Ask, Flaw>
+    ensures { Gives result (notify_of (view json.now)) }
+{
+    only(
+        json,
+        &["id", "op", "space", "template", "lease", "handback", "txn"],
+    )?;
+    let space = text_at(alloc, json, "space")?;
+    let template = template_at(alloc, json, "template")?;
+    let lease = number_at(json, "lease")?;
+    let handback = text_at(alloc, json, "handback")?;
+    let txn = optional_number_at(json, "txn")?;
+    Ok(Ask::Notify(Notify {
+        space,
+        template,
+        lease,
+        handback,
+        txn,
+    }))
+}
+
 #[tactic(auto, unfolding(crate::specs::Operations::renew_of))]
 fn renew(json: &Json) -> Result<Ask, Flaw>
     ensures { Gives result (renew_of (view json.now)) }
@@ -101,6 +123,34 @@ fn cancel_all(alloc: Global, json: &Json) -> Result<Ask, Flaw>
     Ok(Ask::CancelAll { leases })
 }
 
+#[tactic(auto, unfolding(crate::specs::Operations::begin_of))]
+fn begin(json: &Json) -> Result<Ask, Flaw>
+    ensures { Gives result (begin_of (view json.now)) }
+{
+    only(json, &["id", "op", "lease"])?;
+    let lease = number_at(json, "lease")?;
+    Ok(Ask::Txn { lease })
+}
+
+/// The transaction that an operation is about, which can't be null.
+#[tactic(auto, unfolding(crate::specs::Operations::transaction_of))]
+fn transaction(json: &Json) -> Result<i64, Flaw>
+    ensures { Gives result (transaction_of (view json.now)) }
+{
+    only(json, &["id", "op", "txn"])?;
+    let txn = number_at(json, "txn")?;
+    Ok(txn)
+}
+
+#[tactic(auto, unfolding(crate::specs::Operations::reset_of))]
+fn reset(alloc: Global, json: &Json) -> Result<Ask, Flaw>
+    ensures { Gives result (reset_of (view json.now)) }
+{
+    only(json, &["id", "op", "space"])?;
+    let space = text_at(alloc, json, "space")?;
+    Ok(Ask::Reset { space })
+}
+
 /// An operation without keys of its own.
 #[tactic(auto, unfolding(crate::specs::Operations::keyless_of))]
 fn keyless(json: &Json, ask: Ask) -> Result<Ask, Flaw>
@@ -118,11 +168,25 @@ fn ask(alloc: Global, name: &str, json: &Json) -> Result<Ask, Flaw>
         "declare" => declare(alloc, json),
         "write" => write(alloc, json),
         "read" => Ok(Ask::Read(search(alloc, json)?)),
+        "read_if" => Ok(Ask::ReadIf(search(alloc, json)?)),
         "take" => Ok(Ask::Take(search(alloc, json)?)),
+        "take_if" => Ok(Ask::TakeIf(search(alloc, json)?)),
+        "notify" => notify(alloc, json),
         "renew" => renew(json),
         "cancel" => cancel(json),
         "renew_all" => renew_all(alloc, json),
         "cancel_all" => cancel_all(alloc, json),
+        "txn" => begin(json),
+        "commit" => Ok(Ask::Commit {
+            txn: transaction(json)?,
+        }),
+        "abort" => Ok(Ask::Abort {
+            txn: transaction(json)?,
+        }),
+        "state" => Ok(Ask::State {
+            txn: transaction(json)?,
+        }),
+        "reset" => reset(alloc, json),
         "spaces" => keyless(json, Ask::Spaces),
         "bye" => keyless(json, Ask::Bye),
         _ => Err(Flaw::Refused),
@@ -171,10 +235,11 @@ fn request_or_fault(alloc: Global, json: &Json) -> Result<Asked, WireFault>
 /// The request that a payload is, or its one fault.
 ///
 /// A payload is JSON (RFC 8259) as serde_json reads it, nested at most 127 deep. A request is an
-/// object with `id`, `op` and the keys of its operation and no other; `txn` and `parent` may be
-/// absent or null. `leases` is a list, of numbers to cancel them and of pairs `[lease, ms]` to renew
-/// them; a pair is an array of exactly two numbers. Its limits are those of [`Asked`]. The
-/// operations, their keys and these limits are this profile's own.
+/// object with `id`, `op` and the keys of its operation and no other; `parent` and `txn` may be
+/// absent or null, but for the `txn` of `commit`, `abort` and `state`. `leases` is a list, of numbers
+/// to cancel them and of pairs `[lease, ms]` to renew them; a pair is an array of exactly two
+/// numbers. Its limits are those of [`Asked`]. The operations, their keys and these limits are this
+/// profile's own.
 #[tactic(auto, unfolding(crate::specs::Reading::reading))]
 pub fn read_ask(alloc: Global, payload: &[u8]) -> Result<Asked, WireFault>
     ensures { Answers result (reading payload.now) }

@@ -1,4 +1,5 @@
-//! What is read as a request and what is refused, where that is JSON's to say, and what isn't built yet.
+//! What is read as a request and what is refused, where that is JSON's to say, and that each operation
+//! is read where there is memory.
 use crate::{WireFault, read_ask};
 use std::test::Fail;
 
@@ -80,31 +81,30 @@ fn deep_json_and_long_numbers(rt: HostRuntime) -> Result<(), Fail> {
 }
 
 #[test]
-fn what_is_not_built_yet(rt: HostRuntime) -> Result<(), Fail> {
+fn each_operation_where_there_is_memory(rt: HostRuntime) -> Result<(), Fail> {
     for payload in [
-        r#"{"id":5,"op":"write","space":"a","entry":{"class":"J","fields":{}},"lease":1,"txn":3}"#,
-        r#"{"id":5,"op":"take","space":"a","template":null,"timeout":1}"#,
-        r#"{"id":5,"op":"take","space":"a","template":null,"timeout":0,"txn":3}"#,
-        r#"{"id":5,"op":"read","space":"a","template":null,"timeout":1}"#,
-        r#"{"id":5,"op":"read_if","space":"a","template":null,"timeout":0}"#,
-        r#"{"id":5,"op":"take_if","space":"a","template":null,"timeout":0}"#,
-        r#"{"id":5,"op":"notify","space":"a","template":null,"lease":1,"handback":"h"}"#,
+        r#"{"id":5,"op":"declare","class":"J","parent":"K","fields":{"k":"int"}}"#,
+        r#"{"id":5,"op":"write","space":"a","entry":{"class":"J","fields":{"k":"x"}},"lease":1,"txn":3}"#,
+        r#"{"id":5,"op":"read","space":"a","template":null,"timeout":1,"txn":3}"#,
+        r#"{"id":5,"op":"read_if","space":"a","template":null,"timeout":1}"#,
+        r#"{"id":5,"op":"take","space":"a","template":{"class":"J","fields":{"k":1}},"timeout":-1}"#,
+        r#"{"id":5,"op":"take_if","space":"a","template":null,"timeout":0,"txn":null}"#,
+        r#"{"id":5,"op":"notify","space":"a","template":null,"lease":1,"handback":"h","txn":3}"#,
+        r#"{"id":5,"op":"renew","lease":3,"ms":-1}"#,
+        r#"{"id":5,"op":"cancel","lease":3}"#,
+        r#"{"id":5,"op":"renew_all","leases":[[3,1],[4,-1]]}"#,
+        r#"{"id":5,"op":"cancel_all","leases":[3,4]}"#,
         r#"{"id":5,"op":"txn","lease":1}"#,
-        r#"{"id":5,"op":"commit","txn":1}"#,
-        r#"{"id":5,"op":"abort","txn":1}"#,
-        r#"{"id":5,"op":"state","txn":1}"#,
+        r#"{"id":5,"op":"commit","txn":3}"#,
+        r#"{"id":5,"op":"abort","txn":3}"#,
+        r#"{"id":5,"op":"state","txn":3}"#,
         r#"{"id":5,"op":"reset","space":"a"}"#,
-        r#"{"id":5,"op":"hello","version":1}"#,
-        r#"{"id":5,"op":"hello","version":2}"#,
-        r#"{"id":5,"op":"write_all","space":"a","entries":[{"class":"J","fields":{}}],"lease":1}"#,
-        r#"{"id":5,"op":"take_many","space":"a","templates":[null],"most":1,"timeout":0}"#,
-        r#"{"id":5,"op":"contents","space":"a","template":null,"lease":1}"#,
-        r#"{"id":5,"op":"next","set":1,"most":1}"#,
-        r#"{"id":5,"op":"close_set","set":1}"#,
+        r#"{"id":5,"op":"spaces"}"#,
+        r#"{"id":5,"op":"bye"}"#,
     ] {
         assert_eq!(rt;
             shows(&rt, payload.as_bytes())?.as_str(),
-            "5 refused 2",
+            "5 read",
             "{payload}"
         );
     }

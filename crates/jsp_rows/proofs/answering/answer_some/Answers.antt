@@ -1,13 +1,9 @@
-use Rattle.std.proofs.Common.{refl}
+use Rattle.std.proofs.Common.{◌∙◌, sym}
 use Rattle.jsp_model.specs.declared.step.Step.TheVariants as step
-use Rattle.jsp_rows.proofs.Finishing.{still}
-use Rattle.jsp_rows.proofs.HandingOut.{makes_hand_out}
+use Rattle.jsp_rows.proofs.Logging.{keeps_step}
 use Rattle.jsp_rows.proofs.answering.answer_some.Goals as goal
 
-pub returns-clause-steps : goal.returns-clause-steps
-returns-clause-steps c =
-    let log = rw c.in_ok-reserve.ensures.items at c.enter.ensures in
-    makes_hand_out c.args.image.now c.hand_out.new.image c.args.log.now.items c.enter.new.log.items c.args.session c.args.count c.requires.some c.requires.there c.in_ok-answers.ensures.ok log
-
-pub returns-clause-still : goal.returns-clause-still
-returns-clause-still c = still c.args.image.now c.hand_out.new.image (step.HandOut c.args.session c.args.count) c.requires.waits refl c.in_ok-answers.ensures.ok
+pub returns-clause-keeps : goal.returns-clause-keeps
+returns-clause-keeps c =
+    keeps_step c.args.image.now c.answer_within.new.image (step.HandOut c.args.session c.args.count) c.args.bound _ _ _ _ (sym c.in_ok-answer_within.ensures.steps.view) (sym c.is_full.ensures ∙ c.if-is_full.false)
+    c.in_ok-answer_within.ensures.len c.in_ok-answer_within.ensures.room

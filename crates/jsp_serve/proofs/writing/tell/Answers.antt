@@ -11,3 +11,6 @@ returns-in-NoMemory-clause-all g c = rw c.in-NoMemory.is c.write_bytes-in-NoMemo
 
 pub returns-in-CannotWrite-clause-all : goal.returns-in-CannotWrite-clause-all
 returns-in-CannotWrite-clause-all g c = rw c.in-CannotWrite.is c.write_bytes-in-CannotWrite.ensures.all
+
+pub returns-in-DoesNotReplay-clause-all : goal.returns-in-DoesNotReplay-clause-all
+returns-in-DoesNotReplay-clause-all g c = rw c.in-DoesNotReplay.is c.write_bytes-in-DoesNotReplay.ensures.all

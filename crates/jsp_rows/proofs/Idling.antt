@@ -1,0 +1,90 @@
+-- Where no transaction votes, a settle turn makes a space quiet, or all are.
+use Rattle.std.proofs.Common.{◌≡◌, refl, sym, ◌∙◌, subst, ℕ, List, [], ◌∷◌, ◌++◌, length, Bool, true, false, not, ◌||◌, Option, Some, None, Ok, Err}
+use Rattle.std.specs.Prelude.{if◌then◌else◌, option_to_list}
+use Rattle.std.specs.List.{list_all, range_with_len}
+use Rattle.std.proofs.lemmas.Bool.{and_parts, and_from, or_right}
+use Rattle.jsp_model.specs.declared.state.State.{State}
+use Rattle.jsp_model.specs.declared.state.Space.{Space}
+use Rattle.jsp_model.specs.declared.step.Step.{Step}
+use Rattle.jsp_model.specs.declared.house.Stopped.{Stopped}
+use Rattle.jsp_model.specs.declared.house.Settled.TheVariants as settled
+use Rattle.jsp_model.specs.Lookup.{contains}
+use Rattle.jsp_model.specs.Quiet.{is_quiet, are_quiet}
+use Rattle.jsp_model.specs.Runs.{state_after}
+use Rattle.jsp_model.specs.Settling.{settle_step, first_unquiet, places, AllQuiet}
+use Rattle.jsp_model.specs.House.{Settles, Finishes, is_unasked, own_of, touched}
+use Rattle.jsp_model.proofs.Joining.{Makes-none}
+use Rattle.jsp_model.proofs.Closing.{free_run_spaces}
+use Rattle.jsp_laws.proofs.Lists.{each_has, each_by_all, each_numbers}
+use Rattle.jsp_quiet.specs.Steady.{IsSteady}
+use Rattle.jsp_quiet.specs.Quieting.{decides}
+use Rattle.jsp_quiet.proofs.Runs.{quiet_act}
+use Rattle.jsp_quiet.proofs.Driving.{undecided}
+use Rattle.jsp_rows.specs.Owing.{Covers}
+use Rattle.jsp_rows.proofs.Places.{all_has, none_unquiet}
+use Rattle.jsp_rows.proofs.Going.{all_both, all_parts, covered}
+
+-- ---- all spaces are quiet
+
+-- what was quiet still is, after such steps that leave quiet what they touch
+still_quiet : (old new : State) (owed left : List ℕ) (before after : List Step) → IsSteady old → Finishes old new owed left before after (Ok tt) → AllQuiet old → AllQuiet new
+still_quiet old new owed left before after h f quiet =
+    let undecides : list_all (λ x. not (decides x)) f.steps ≡ true = undecided f.steps (rw f.own refl) in
+    let spaces : new.spaces ≡ old.spaces = subst (λ (w : State). w.spaces ≡ old.spaces) f.makes.view (free_run_spaces old f.steps f.own) in
+    let here : are_quiet new (touched old f.steps) ≡ true = (all_parts (is_quiet new) (touched old f.steps) owed f.leaves.1).0 in
+    let at_end : are_quiet (state_after old f.steps) (touched old f.steps) ≡ true = subst (λ (w : State). are_quiet w (touched old f.steps) ≡ true) (sym f.makes.view) here in
+    let all : list_all (is_quiet new) (places old) ≡ true = all_has (is_quiet new) (places old) (λ p k. subst (λ (w : State). is_quiet w p ≡ true) f.makes.view (quiet_act old f.steps p h f.makes.run undecides at_end (each_has (λ q. is_quiet old q ≡ true) (places old) p (each_by_all (is_quiet old) (places old) quiet) k))) in
+    subst (λ (ps : List Space). list_all (is_quiet new) (range_with_len 0 (length ps)) ≡ true) (sym spaces) all
+
+none_due : (old : State) (b : Bool) → settle_step old ≡ None → [] ≡ (if b then option_to_list (settle_step old) else [])
+none_due old true e = rw e refl
+none_due old false e = refl
+
+pub idle : (old new : State) (owed left : List ℕ) (before after : List Step) → IsSteady old → settle_step old ≡ None → first_unquiet old ≡ None → Finishes old new owed left before after (Ok tt) → Settles old new owed left before after (Ok settled.Idle)
+idle old new owed left before after h none quiet f = record {
+  steps = f.steps;
+  makes = f.makes;
+  own = f.own ∙ none_due old true none;
+  leaves = f.leaves;
+  answers = (none, still_quiet old new owed left before after h f (none_unquiet old quiet));
+}
+
+-- ---- a space is owed
+
+covers_part : (t : ℕ → Bool) (ps owed spaces : List ℕ) → Covers owed spaces → list_all t (ps ++ owed) ≡ true → list_all t (ps ++ spaces) ≡ true
+covers_part t ps owed spaces c h = let parts = all_parts t ps owed h in all_both t ps spaces parts.0 (covered t owed spaces c parts.1)
+
+pub quieted : (old new : State) (owed debt left : List ℕ) (before after : List Step) (p : ℕ) → settle_step old ≡ None → first_unquiet old ≡ Some p → Covers debt owed → Covers debt (p ∷ []) → Finishes old new debt left before after (Ok tt) → Settles old new owed left before after (Ok settled.Quieted)
+quieted old new owed debt left before after p none found c d f =
+    let quiet = all_parts (is_quiet new) (touched old f.steps) debt f.leaves.1 in
+    record {
+      steps = f.steps;
+      makes = f.makes;
+      own = f.own ∙ none_due old true none;
+      leaves = (f.leaves.0, covers_part (is_quiet new) (touched old f.steps) debt owed c f.leaves.1, f.leaves.2);
+      answers = (none, p, found, each_numbers (is_quiet new) debt p quiet.1 (and_parts (contains debt p) true d).0);
+    }
+
+-- ---- or the call was stopped
+
+pub quieting_stopped : (old new : State) (owed debt left : List ℕ) (before after : List Step) (e : Stopped) → settle_step old ≡ None → Covers debt owed → Finishes old new debt left before after (Err e) → Settles old new owed left before after (Err e)
+quieting_stopped old new owed debt left before after e none c f = record {
+  steps = f.steps;
+  makes = f.makes;
+  own = f.own ∙ none_due old e.done none;
+  leaves = covers_part (λ p. is_quiet new p || contains left p) (touched old f.steps) debt owed c f.leaves;
+  answers = tt;
+}
+
+pub idling_stopped : (old new : State) (owed left : List ℕ) (before after : List Step) (e : Stopped) → settle_step old ≡ None → Finishes old new owed left before after (Err e) → Settles old new owed left before after (Err e)
+idling_stopped old new owed left before after e none f = record { steps = f.steps; makes = f.makes; own = f.own ∙ none_due old e.done none; leaves = f.leaves; answers = tt }
+
+-- before it made a step
+pub quieting_unmade : (old : State) (owed left : List ℕ) (log : List Step) (e : Stopped) → settle_step old ≡ None → Covers left owed → Settles old old owed left log log (Err e)
+quieting_unmade old owed left log e none c = record {
+  steps = [];
+  makes = Makes-none old log;
+  own = none_due old e.done none;
+  leaves = all_has (λ p. is_quiet old p || contains left p) owed (λ p k. or_right (is_quiet old p) (contains left p) (each_has (λ q. contains left q ≡ true) owed p (each_by_all (contains left) owed c) k));
+  answers = tt;
+}

@@ -1,0 +1,13 @@
+use Rattle.std.proofs.Common.{◌≡◌, sym, ◌∙◌, subst}
+use Rattle.jsp_rows.specs.Owing.{Covers}
+use Rattle.jsp_rows.proofs.Going.{covers_itself, covers_pushed}
+use Rattle.jsp_rows.proofs.owing.owe_one.Goals as goal
+
+pub returns-in_err-push-clause-stay : goal.returns-in_err-push-clause-stay
+returns-in_err-push-clause-stay c = subst (λ w. Covers w c.args.debt.now.items) (sym c.in_err-push.ensures.items) (covers_itself c.args.debt.now.items)
+
+pub returns-in_ok-push-clause-stay : goal.returns-in_ok-push-clause-stay
+returns-in_ok-push-clause-stay c = subst (λ w. Covers w c.args.debt.now.items) (sym c.in_ok-push.ensures.items) (covers_pushed c.args.debt.now.items c.args.space)
+
+pub returns-else-not-contains-clause-stay : goal.returns-else-not-contains-clause-stay
+returns-else-not-contains-clause-stay c = covers_itself c.args.debt.now.items

@@ -1,0 +1,128 @@
+//! The steps that nobody has to ask for.
+ghost use Rattle.std.specs.Prelude.{◌≡◌, ◌-◌, ◌++◌, ◌∷◌, [], OnOk, OnErr, Some, IfOk, IfErr, IfSome, IfNone, IsTrue, option_copied, vec_len, vec_capacity};
+ghost use Rattle.jsp_model.specs.House.{MayStop, is_unasked};
+ghost use Rattle.jsp_model.specs.Limits.{IsWithinLimits};
+ghost use Rattle.jsp_model.specs.Due.{due as due_now};
+ghost use Rattle.jsp_model.specs.Quiet.{are_quiet};
+ghost use Rattle.jsp_model.specs.Touches.{touches as touched_by};
+ghost use Rattle.jsp_model.specs.Steps.{is_legal, next};
+ghost use Rattle.jsp_quiet.specs.Quieting.{quiets};
+ghost use Rattle.jsp_rows.specs.Making.{KeepsLog};
+ghost use Rattle.jsp_rows.specs.Owing.{Covers, Goes, IsDone};
+
+use crate::making::make;
+use crate::owing::owe;
+use crate::quieting::quieting_step;
+use crate::unquiet::first_unquiet_of;
+use jsp_audit::{due, touches};
+use jsp_lease::Item;
+use jsp_model::{Image, State, Step, Why};
+use jsp_types::NoMemory;
+use std::alloc::Global;
+
+/// Makes the steps that nobody has to ask for, until each space that is owed, or that the step to
+/// come touches, is quiet and nothing is due. Each space that they touch is owed from then on, so
+/// the debt says of all of them that they are quiet, or what is left where the call is stopped.
+pub(crate) fn finish(
+    alloc: Global,
+    image: &mut Image,
+    debt: &mut Vec<u64>,
+    to_come: Option<&Step>,
+    bound: Option<u64>,
+    log: &mut Vec<Step>,
+) -> Result<(), Why>
+    ensures goes { Goes image.old image.new debt.old.items debt.new.items log.old.items log.new.items }
+    ensures done { OnOk result (IsDone image.new debt.new.items (option_copied to_come.entry)) }
+    ensures keeps { KeepsLog image.old image.new bound (vec_len log.old) (vec_len log.new) (vec_capacity log.old - vec_len log.old) (vec_capacity log.new - vec_len log.new) }
+    ensures why { IfErr result (λ w. MayStop bound (vec_len log.new) w) }
+{
+    'steps: while let Some(step) = next_step(alloc, image, debt.as_slice(), to_come)? {
+        make_owing(alloc, image, debt, step, bound, log)?;
+    }
+    Ok(())
+}
+
+/// Makes a step, and owes it to the spaces that it touches.
+pub(crate) fn make_owing(
+    alloc: Global,
+    image: &mut Image,
+    debt: &mut Vec<u64>,
+    step: Step,
+    bound: Option<u64>,
+    log: &mut Vec<Step>,
+) -> Result<(), Why>
+    requires { IsTrue (is_legal image.old step) }
+    ensures made { OnOk result (image.new ≡ next image.old step) }
+    ensures log { OnOk result (log.new.items ≡ log.old.items ++ step ∷ []) }
+    ensures owes { OnOk result (Covers debt.new.items (touched_by image.old step)) }
+    ensures stays { Covers debt.new.items debt.old.items }
+    ensures err { OnErr result ((image.new ≡ image.old) × (log.new.items ≡ log.old.items)) }
+    ensures keeps { KeepsLog image.old image.new bound (vec_len log.old) (vec_len log.new) (vec_capacity log.old - vec_len log.old) (vec_capacity log.new - vec_len log.new) }
+    ensures why { IfErr result (λ w. MayStop bound (vec_len log.new) w) }
+{
+    let spaces = touches(alloc, image, &step)?;
+    owe(debt, spaces.as_slice())?;
+    make(alloc, image, step, bound, log)
+}
+
+/// The next step that nobody has to ask for: one that quiets a space that is owed; else what is due,
+/// once the spaces that it touches are quiet; else one that quiets a space that the step to come
+/// touches.
+fn next_step(
+    alloc: Global,
+    image: &Image,
+    debt: &[u64],
+    to_come: Option<&Step>,
+) -> Result<Option<Step>, NoMemory>
+    ensures legal { IfOk result (λ o. IfSome o (λ s. IsTrue (is_legal image.now s))) }
+    ensures unasked { IfOk result (λ o. IfSome o (λ s. IsTrue (is_unasked s))) }
+    ensures none { IfOk result (λ o. IfNone o (IsDone image.now debt.now (option_copied to_come.entry))) }
+{
+    let state = image.state();
+    if let Some(step) = quieting_of(alloc, state, debt)? {
+        return Ok(Some(step));
+    }
+    if let Some(item) = due(state) {
+        return Ok(Some(ending(alloc, image, item)?));
+    }
+    match to_come {
+        None => Ok(None),
+        Some(step) => quieting_for(alloc, image, step),
+    }
+}
+
+/// What is due, or a step that quiets a space that this touches.
+fn ending(alloc: Global, image: &Image, item: Item) -> Result<Step, NoMemory>
+    requires { due_now image.now ≡ Some item }
+    ensures legal { IfOk result (λ s. IsTrue (is_legal image.now s)) }
+    ensures unasked { IfOk result (λ s. IsTrue (is_unasked s)) }
+{
+    let end = Step::Due { item };
+    match quieting_for(alloc, image, &end)? {
+        None => Ok(end),
+        Some(step) => Ok(step),
+    }
+}
+
+/// A step that quiets a space that this step touches.
+fn quieting_for(alloc: Global, image: &Image, step: &Step) -> Result<Option<Step>, NoMemory>
+    ensures legal { IfOk result (λ o. IfSome o (λ s. IsTrue (is_legal image.now s))) }
+    ensures quiets { IfOk result (λ o. IfSome o (λ s. IsTrue (quiets s))) }
+    ensures none { IfOk result (λ o. IfNone o (IsTrue (are_quiet image.now (touched_by image.now step.now)))) }
+{
+    let spaces = touches(alloc, image, step)?;
+    quieting_of(alloc, image.state(), spaces.as_slice())
+}
+
+/// A step that quiets one of these spaces, the first one in the configured order that isn't quiet.
+fn quieting_of(alloc: Global, state: &State, spaces: &[u64]) -> Result<Option<Step>, NoMemory>
+    requires { IsWithinLimits state.now }
+    ensures legal { IfOk result (λ o. IfSome o (λ s. IsTrue (is_legal state.now s))) }
+    ensures quiets { IfOk result (λ o. IfSome o (λ s. IsTrue (quiets s))) }
+    ensures none { IfOk result (λ o. IfNone o (IsTrue (are_quiet state.now spaces.now))) }
+{
+    match first_unquiet_of(state, spaces) {
+        None => Ok(None),
+        Some(space) => quieting_step(alloc, state, space),
+    }
+}

@@ -1,0 +1,101 @@
+//! A step that was asked for, with all that goes before it and follows from it.
+ghost use Rattle.std.specs.Prelude.{◌≡◌, ◌≤◌, ◌^◌, ◌-◌, ◌++◌, ◌∷◌, [], true, false, None, Some, OnOk, OnErr, IfOk, IfErr, IsTrue, vec_len, vec_capacity};
+ghost use Rattle.jsp_model.specs.House.{MayStop, Finishes, bare, is_unasked};
+ghost use Rattle.jsp_model.specs.Limits.{IsWithinLimits};
+ghost use Rattle.jsp_model.specs.Touches.{touches as touched_by};
+ghost use Rattle.jsp_model.specs.Steps.{next};
+ghost use Rattle.jsp_rows.specs.Making.{KeepsLog, Performs, MakesOwn, may_come, has_rows};
+ghost use Rattle.jsp_rows.specs.Owing.{Covers, IsDone};
+
+use crate::choosing::choose_rows;
+use crate::finishing::{finish, make_owing};
+use jsp_model::{Image, State, Step, Stopped, Why};
+use jsp_types::NoMemory;
+use std::alloc::Global;
+
+/// Quiets what the step touches, makes it, and then what follows from it by itself.
+pub(crate) fn perform(
+    alloc: Global,
+    image: &mut Image,
+    debt: &mut Vec<u64>,
+    step: Step,
+    bound: Option<u64>,
+    log: &mut Vec<Step>,
+) -> Result<(), Stopped>
+    requires may_come { IsTrue (may_come image.old step) }
+    requires bare { bare step ≡ step }
+    ensures performs { Performs image.old image.new debt.old.items debt.new.items log.old.items log.new.items step result }
+    ensures keeps { KeepsLog image.old image.new bound (vec_len log.old) (vec_len log.new) (vec_capacity log.old - vec_len log.old) (vec_capacity log.new - vec_len log.new) }
+    ensures why { IfErr result (λ e. MayStop bound (vec_len log.new) e.why) }
+{
+    if let Err(why) = finish(alloc, image, debt, Some(&step), bound, log) {
+        return Err(Stopped { why, done: false });
+    }
+    match make_own(alloc, image, debt, step, bound, log) {
+        Err(why) => Err(Stopped { why, done: false }),
+        Ok(()) => clear(alloc, image, debt, true, bound, log),
+    }
+}
+
+/// Makes the step, with the rows that it gives.
+fn make_own(
+    alloc: Global,
+    image: &mut Image,
+    debt: &mut Vec<u64>,
+    step: Step,
+    bound: Option<u64>,
+    log: &mut Vec<Step>,
+) -> Result<(), Why>
+    requires may_come { IsTrue (may_come image.old step) }
+    requires done { IsDone image.old debt.old.items (Some step) }
+    ensures made { OnOk result (MakesOwn image.old image.new debt.old.items debt.new.items log.old.items log.new.items step) }
+    ensures stays { Covers debt.new.items debt.old.items }
+    ensures err { OnErr result ((image.new ≡ image.old) × (log.new.items ≡ log.old.items)) }
+    ensures keeps { KeepsLog image.old image.new bound (vec_len log.old) (vec_len log.new) (vec_capacity log.old - vec_len log.old) (vec_capacity log.new - vec_len log.new) }
+    ensures why { IfErr result (λ w. MayStop bound (vec_len log.new) w) }
+{
+    let step = with_rows(alloc, image.state(), step)?;
+    make_owing(alloc, image, debt, step, bound, log)
+}
+
+/// The step, and the rows that its request is given.
+fn with_rows(alloc: Global, state: &State, step: Step) -> Result<Step, NoMemory>
+    requires { IsWithinLimits state.now }
+    ensures same { IfOk result (λ s. bare s ≡ bare step) }
+    ensures rows { IfOk result (λ s. has_rows state.now s ≡ true) }
+{
+    match step {
+        Step::Ask { session, asked, .. } => {
+            let rows = choose_rows(alloc, state, session, asked.id(), asked.ask())?;
+            Ok(Step::Ask {
+                session,
+                asked,
+                rows,
+            })
+        }
+        other => Ok(other),
+    }
+}
+
+/// Makes what is owed and due; then nothing is owed any more.
+pub(crate) fn clear(
+    alloc: Global,
+    image: &mut Image,
+    debt: &mut Vec<u64>,
+    done: bool,
+    bound: Option<u64>,
+    log: &mut Vec<Step>,
+) -> Result<(), Stopped>
+    ensures finishes { Finishes image.old image.new debt.old.items debt.new.items log.old.items log.new.items result }
+    ensures done { IfErr result (λ e. e.done ≡ done) }
+    ensures keeps { KeepsLog image.old image.new bound (vec_len log.old) (vec_len log.new) (vec_capacity log.old - vec_len log.old) (vec_capacity log.new - vec_len log.new) }
+    ensures why { IfErr result (λ e. MayStop bound (vec_len log.new) e.why) }
+{
+    match finish(alloc, image, debt, None, bound, log) {
+        Err(why) => Err(Stopped { why, done }),
+        Ok(()) => {
+            debt.clear();
+            Ok(())
+        }
+    }
+}
