@@ -1,4 +1,4 @@
-use crate::RowsHouse;
+use crate::{RowsHouse, replay, replay_from};
 use jsp_model::{Config, House, Input, Step, Stopped, Why};
 use jsp_reply::{Said, text};
 use jsp_types::{Items, Text};
@@ -175,5 +175,46 @@ fn the_image_has_the_session_and_the_time(rt: HostRuntime) -> Result<(), Fail> {
     let mut house = house(&rt)?;
     let found = numbers_of_image(&rt, &mut house)?;
     assert_eq!(rt; found, (3, 7));
+    Ok(())
+}
+
+// The steps of a take that waits and is granted a write: a session is opened, and before each request the clock is
+// read. The last of the 8 is the grant.
+fn granted(rt: &HostRuntime) -> Result<Vec<Step>, Fail> {
+    let mut house = house(rt)?;
+    let mut log = Vec::new(rt.alloc());
+    sends_all(
+        rt,
+        &mut house,
+        &[(0, DECLARE), (0, WAITS), (0, WRITE_7)],
+        &mut log,
+    )?;
+    Ok(log)
+}
+
+// Whether the last of these steps is legal after so many of them.
+fn is_legal_after(rt: &HostRuntime, steps: &[Step], count: usize) -> Result<bool, Fail> {
+    let Some(config) = config(rt)? else {
+        return Err(Fail::new("no config"));
+    };
+    let (Some(begun), Some(last)) = (steps.get(..count), steps.get(7..)) else {
+        return Err(Fail::new("fewer steps"));
+    };
+    match replay(rt.alloc(), &config, begun) {
+        Ok(replayed) => Ok(replay_from(rt.alloc(), &replayed.image, last).is_ok()),
+        Err(_) => Err(Fail::new("no run")),
+    }
+}
+
+#[test]
+fn a_grant_is_replayed_once_after_its_write(rt: HostRuntime) -> Result<(), Fail> {
+    let steps = granted(&rt)?;
+    let without_the_write = is_legal_after(&rt, steps.as_slice(), 6)?;
+    let in_its_place = is_legal_after(&rt, steps.as_slice(), 7)?;
+    let doubled = is_legal_after(&rt, steps.as_slice(), 8)?;
+    assert_eq!(rt;
+        (without_the_write, in_its_place, doubled),
+        (false, true, false)
+    );
     Ok(())
 }
