@@ -3,6 +3,7 @@ pub mod Quieting
 pub mod Turning
 pub mod Silence
 pub mod Stopping
+pub mod Giving
 pub mod Serving
 pub mod Performing
 pub mod Sending

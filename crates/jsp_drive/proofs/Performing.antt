@@ -2,7 +2,6 @@
 use Rattle.std.proofs.Common.{◌≡◌, ℕ, Bool, true, false, List, [], ◌∷◌, ◌++◌, None, refl, ap, sym, ◌∙◌}
 use Rattle.std.specs.Prelude.{if◌then◌else◌}
 use Rattle.std.specs.HashMap.{HashMap}
-use Rattle.jsp_frame.specs.Unframer.{Incoming}
 use Rattle.jsp_model.specs.declared.state.State.{State}
 use Rattle.jsp_model.specs.declared.step.Step.{Step}
 use Rattle.jsp_model.specs.declared.step.Step.TheVariants as step
@@ -15,11 +14,12 @@ use Rattle.jsp_model.specs.House.{Makes, own_of, touched, shuts}
 use Rattle.jsp_model.proofs.Closing.{shut_step}
 use Rattle.jsp_model.proofs.Ends.{due_shut}
 use Rattle.jsp_drive.specs.declared.acts.Act.TheVariants as act
+use Rattle.jsp_drive.specs.Line.{Unheard}
 use Rattle.jsp_drive.specs.Lines.{SetsLine}
 use Rattle.jsp_drive.specs.Calls.{Performs}
 
 abbrev Lines : Type 0 → Type 0
-Lines S = HashMap ℕ Incoming S
+Lines S = HashMap ℕ Unheard S
 
 due_at : (b : Bool) (s : ℕ) (old new : State) → state_after old (if b then step.Shut s ∷ [] else []) ≡ new → due old ≡ None → due new ≡ None
 due_at true s old new view none = ap due (sym view) ∙ due_shut old s none

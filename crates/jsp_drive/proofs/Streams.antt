@@ -22,8 +22,7 @@ use Rattle.jsp_model.proofs.Sessions.{Numbered, IsPast, Rises, rises_run, number
 use Rattle.jsp_drive.specs.declared.acts.Act.{Act}
 use Rattle.jsp_drive.specs.declared.acts.Act.TheVariants as act
 use Rattle.jsp_drive.specs.declared.acts.Sent.{Sent}
-use Rattle.jsp_drive.specs.Heard.{heard, heard_as}
-use Rattle.jsp_drive.specs.Lines.{longest}
+use Rattle.jsp_drive.specs.Heard.{longest, heard, heard_as}
 use Rattle.jsp_drive.specs.Tie.{asked_in, AsksBy, Hears, HearsPiece, Asks, Tied}
 use Rattle.jsp_drive.specs.Streams.{brings, stream_of, is_request_of, requests_of, AsksByStream, AskByStreams}
 use Rattle.jsp_drive.proofs.Asking.{asked_in-append}

@@ -15,7 +15,7 @@ use Rattle.jsp_model.specs.Quiet.{is_quiet}
 use Rattle.jsp_model.specs.Steps.{is_vote_to_abort}
 use Rattle.jsp_model.specs.Runs.{state_after}
 use Rattle.jsp_model.specs.Settling.{first_voting, turn_of, settle_step, places, first_unquiet}
-use Rattle.jsp_model.specs.House.{is_unasked, bare, own_of, touched, Answers, Settles}
+use Rattle.jsp_model.specs.House.{own_of, touched, Answers, Settles}
 use Rattle.jsp_model.proofs.Closing.{free_run_spaces}
 use Rattle.jsp_drive.specs.Calls.{Turns}
 use Rattle.jsp_drive.proofs.Quieting.{quiet_first}

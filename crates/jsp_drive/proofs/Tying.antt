@@ -9,7 +9,6 @@ use Rattle.std.proofs.lemmas.List.{append-nil}
 use Rattle.std.proofs.lemmas.List.Elements.{filter-append}
 use Rattle.std.proofs.lemmas.List.Folds.{list_all-map}
 use Rattle.std.proofs.lemmas.Bool.{and_parts, and_from, or_parts, eqb-true, ne_eqb, eq-eqb, ltb-true}
-use Rattle.jsp_frame.specs.Unframer.{Incoming}
 use Rattle.jsp_reply.specs.declared.reply.Reply.{Reply}
 use Rattle.jsp_model.specs.declared.state.State.{State}
 use Rattle.jsp_model.specs.declared.state.Outbox.{Outbox}
@@ -30,6 +29,7 @@ use Rattle.jsp_drive.specs.declared.acts.Act.{Act}
 use Rattle.jsp_drive.specs.declared.acts.Act.TheVariants as act
 use Rattle.jsp_drive.specs.declared.acts.Sent.{Sent}
 use Rattle.jsp_drive.specs.Heard.{framed}
+use Rattle.jsp_drive.specs.Line.{Unheard}
 use Rattle.jsp_drive.specs.Lines.{AreLines, pending, rest_of}
 use Rattle.jsp_drive.specs.Tie.{is_hand_out, asked_in, HearsPiece, Asks, QuietsFirst, frame_for, Part, Tied, bytes_to}
 use Rattle.jsp_drive.specs.Calls.{Performs, frames_sent, Sends}
@@ -119,7 +119,7 @@ quiets_sent (act.Clock t) old new h = tt
 quiets_sent act.Settle old new h = λ none p first. quiet_outboxes new [] p ∙ h none p first
 
 abbrev Lines : Type 0 → Type 0
-Lines S = HashMap ℕ Incoming S
+Lines S = HashMap ℕ Unheard S
 
 -- before what is said is handed out
 pub record Said (st mid : State) (steps : List Step) : Type 0 where
@@ -211,7 +211,7 @@ module _ {S : Type 0} where
     between = b;
     are_lines = λ s. rw none tt;
     tied = λ more later rest. (
-        let same : pending lines ≡ (λ s. []) = ap (λ (es : List (ℕ × Incoming)). (λ (s : ℕ). rest_of (lookup (nat_eq s) es))) none in
+        let same : pending lines ≡ (λ s. []) = ap (λ (es : List (ℕ × Unheard)). (λ (s : ℕ). rest_of (lookup (nat_eq s) es))) none in
         subst (λ (f : ℕ → List ℕ). Tied st f 0 acts more later) same rest);
   }
 

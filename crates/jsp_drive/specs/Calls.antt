@@ -2,7 +2,6 @@
 use Rattle.std.specs.Prelude.{ℕ, ◌≡◌, true, List, [], ◌∷◌, ◌++◌, Some, None, map, flat_map, option_to_list, if◌then◌else◌, IsTrue}
 use Rattle.std.specs.HashMap.{HashMap}
 use Rattle.jsp_frame.specs.Stream.{SplitsInto}
-use Rattle.jsp_frame.specs.Unframer.{Incoming}
 use Rattle.jsp_model.specs.declared.state.State.{State}
 use Rattle.jsp_model.specs.declared.state.Outbox.{Outbox}
 use Rattle.jsp_model.specs.declared.step.Step.{Step}
@@ -16,7 +15,9 @@ use Rattle.jsp_model.specs.House.{Makes, own_of, touched, accepts, step_of}
 use Rattle.jsp_quiet.specs.Steady.{IsSteady}
 use Rattle.jsp_drive.specs.declared.acts.Act.{Act}
 use Rattle.jsp_drive.specs.declared.acts.Sent.{Sent}
-use Rattle.jsp_drive.specs.Lines.{longest, IsLine, AreLines, pending}
+use Rattle.jsp_drive.specs.Heard.{longest}
+use Rattle.jsp_drive.specs.Line.{Unheard, IsOpen}
+use Rattle.jsp_drive.specs.Lines.{AreLines, pending}
 use Rattle.jsp_drive.specs.Tie.{Asks, AsksBy, QuietsFirst, asked_in, frame_for}
 
 -- the input's own step is made, where it is accepted; then nothing is due, and what was touched is quiet
@@ -38,7 +39,7 @@ pub record Turns (old new : State) (log log' : List Step) : Type 0 where
   pub first_quiet : settle_step old ≡ None → (p : ℕ) → first_unquiet old ≡ Some p → IsTrue (is_quiet new p)
 
 -- the frames of a line are acted
-pub record Serves (s : ℕ) (old new : State) (log log' : List Step) (line line' : Incoming) : Type 0 where
+pub record Serves (s : ℕ) (old new : State) (log log' : List Step) (line line' : Unheard) : Type 0 where
   pub steps : List Step
   pub makes : Makes old new log log' steps
   pub payloads : List (List ℕ)
@@ -46,11 +47,11 @@ pub record Serves (s : ℕ) (old new : State) (log log' : List Step) (line line'
   pub asks : AsksBy s payloads line'.rest (own_of steps) (is_open new s)
   pub nothing_due : due old ≡ None → due new ≡ None
   pub quiet : IsSteady old → IsTrue (are_quiet new (touched old steps))
-  pub goes_on : is_open new s ≡ true → IsLine line'
+  pub goes_on : is_open new s ≡ true → IsOpen line'
 
 module _ {S : Type 0} where
   -- the steps of an act, before anything is handed out
-  pub record Performs (act : Act) (old new : State) (log log' : List Step) (lines lines' : HashMap ℕ Incoming S) : Type 0 where
+  pub record Performs (act : Act) (old new : State) (log log' : List Step) (lines lines' : HashMap ℕ Unheard S) : Type 0 where
     pub steps : List Step
     pub makes : Makes old new log log' steps
     pub asks : Asks act old (own_of steps) new (pending lines) (pending lines')

@@ -8,6 +8,10 @@ use Rattle.jsp_frame.specs.Stream.{frame_of}
 use Rattle.jsp_model.specs.declared.step.Step.{Step}
 use Rattle.jsp_model.specs.declared.step.Step.TheVariants as step
 
+-- the longest payload of a request
+abbrev pub longest : ℕ
+longest = 65536
+
 -- the session's request, or its fault
 abbrev pub heard_as : ℕ → Reading → Step
 heard_as s (request r) = step.Ask s r []

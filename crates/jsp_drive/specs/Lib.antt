@@ -1,5 +1,7 @@
 pub mod Heard
+pub mod Line
 pub mod Lines
 pub mod Tie
 pub mod Calls
 pub mod Streams
+pub mod Giving

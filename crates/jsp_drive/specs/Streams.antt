@@ -9,7 +9,7 @@ use Rattle.jsp_model.specs.Runs.{state_after}
 use Rattle.jsp_drive.specs.declared.acts.Act.{Act}
 use Rattle.jsp_drive.specs.declared.acts.Act.TheVariants as act
 use Rattle.jsp_drive.specs.declared.acts.Sent.{Sent}
-use Rattle.jsp_drive.specs.Lines.{longest}
+use Rattle.jsp_drive.specs.Heard.{longest}
 use Rattle.jsp_drive.specs.Tie.{asked_in, AsksBy, Tied, IsTied}
 
 -- the bytes that an act brings for the session, where it is open

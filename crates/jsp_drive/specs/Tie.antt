@@ -17,8 +17,8 @@ use Rattle.jsp_model.specs.House.{own_of, touched, accepts, shuts}
 use Rattle.jsp_drive.specs.declared.acts.Act.{Act}
 use Rattle.jsp_drive.specs.declared.acts.Act.TheVariants as act
 use Rattle.jsp_drive.specs.declared.acts.Sent.{Sent}
-use Rattle.jsp_drive.specs.Heard.{heard, framed}
-use Rattle.jsp_drive.specs.Lines.{longest, Same, SameBut}
+use Rattle.jsp_drive.specs.Heard.{longest, heard, framed}
+use Rattle.jsp_drive.specs.Lines.{Same, SameBut}
 
 -- ---- what an act asks for
 

@@ -10,10 +10,14 @@
 //! that was cut into pieces (`specs/Streams.antt`), and is sent the frames of what that run says to
 //! it, in order, and all of them. In that run all laws of jsp_laws hold. All this holds for every
 //! house that keeps the contract of `House`.
+//!
+//! A [`Line`] is the one way from a session's bytes to what it asks, in whatever pieces they come
+//! (`specs/Line.antt`, and by whole streams `specs/Giving.antt`). `drive` keeps one for each session.
 #![tactic(auto)]
 
 mod acts;
 mod hear;
+mod line;
 mod lines;
 mod perform;
 mod run;
@@ -22,5 +26,7 @@ mod serve;
 mod stop;
 
 pub use acts::{Act, Driven, Sent};
+pub use hear::LineInput;
+pub use line::{Line, Next};
 pub use run::drive;
 pub use send::encode;

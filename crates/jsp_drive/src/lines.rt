@@ -1,35 +1,33 @@
 //! The lines of open sessions: their bytes that are in no frame yet.
 ghost use Rattle.std.specs.Prelude.{◌≡◌, [], OnOk};
-ghost use Rattle.jsp_drive.specs.Lines.{IsLine, AreLines, SetsLine, pending};
+ghost use Rattle.jsp_drive.specs.Line.{IsOpen};
+ghost use Rattle.jsp_drive.specs.Lines.{AreLines, SetsLine, pending};
 
-use jsp_frame::Unframer;
+use crate::line::Line;
 use jsp_types::NoMemory;
 use std::alloc::Global;
 use std::collections::HashMap;
 
-/// The longest payload of a request, in bytes (this profile's own).
-const LIMIT: u32 = 65_536;
-
 /// The lines by session. A session that has none has nothing pending.
-pub(crate) type Lines = HashMap<u64, Unframer>;
+pub(crate) type Lines = HashMap<u64, Line>;
 
 /// Takes a session's line out, or makes its first.
-pub(crate) fn take_line(alloc: Global, lines: &mut Lines, session: u64) -> Unframer
+pub(crate) fn take_line(alloc: Global, lines: &mut Lines, session: u64) -> Line
     requires { AreLines lines.old }
-    ensures line { IsLine result }
+    ensures line { IsOpen result }
     ensures rest { result.rest ≡ pending lines.old session }
     ensures lines { SetsLine session [] lines.old lines.new }
 {
     match lines.remove(&session) {
         Some(line) => line,
-        None => Unframer::new(alloc, LIMIT),
+        None => Line::new(alloc),
     }
 }
 
 /// Puts a session's line back.
-pub(crate) fn put_line(lines: &mut Lines, session: u64, line: Unframer) -> Result<(), NoMemory>
+pub(crate) fn put_line(lines: &mut Lines, session: u64, line: Line) -> Result<(), NoMemory>
     requires lines { AreLines lines.old }
-    requires line { IsLine line }
+    requires line { IsOpen line }
     ensures { OnOk result (SetsLine session line.rest lines.old lines.new) }
 {
     lines.insert(session, line)?;

@@ -52,7 +52,7 @@ fn piece<H: House>(
     }
     let mut line = take_line(alloc, lines, session);
     line.feed(bytes.as_slice())?;
-    serve(alloc, house, session, &mut line, steps)?;
+    serve(house, session, &mut line, steps)?;
     if house.is_open(session) {
         put_line(lines, session, line)?;
     }

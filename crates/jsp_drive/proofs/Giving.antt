@@ -1,0 +1,141 @@
+-- What a line gives goes on from call to call.
+use Rattle.std.proofs.Common.{◌≡◌, ℕ, true, false, List, [], ◌∷◌, ◌++◌, refl, ap, sym, ◌∙◌, subst, inl, inr, append-nil}
+use Rattle.std.specs.Prelude.{map}
+use Rattle.std.proofs.lemmas.List.{map-append}
+use Rattle.jsp_frame.specs.Stream.{SplitsInto, IsTooLong}
+use Rattle.jsp_frame.proofs.Streams.{SplitsInto-nil, SplitsInto-append, SplitsInto-frame, IsTooLong-append}
+use Rattle.jsp_model.specs.declared.step.Step.{Step}
+use Rattle.jsp_model.specs.House.{step_of}
+use Rattle.jsp_drive.specs.declared.hear.LineInput.{LineInput}
+use Rattle.jsp_drive.specs.declared.line.Next.{Next}
+use Rattle.jsp_drive.specs.declared.line.Next.TheVariants as next
+use Rattle.jsp_drive.specs.Heard.{longest, heard}
+use Rattle.jsp_drive.specs.Line.{Unheard, start, with_rest, IsOpen, IsClosed, input_of, GivesFrame, GivesEnd, Answers}
+use Rattle.jsp_drive.specs.Giving.{heard_all, Gave, FeedsStream, FollowsStream}
+
+-- where a line stands, by its phase
+record StandsOpen (s : ℕ) (stream : List ℕ) (asked : List Step) (line : Unheard) : Type 0 where
+  payloads : List (List ℕ)
+  split : SplitsInto longest stream payloads line.rest
+  asked_is : asked ≡ map (heard s) payloads
+
+record StandsClosed (s : ℕ) (stream : List ℕ) (asked : List Step) : Type 0 where
+  payloads : List (List ℕ)
+  rest : List ℕ
+  split : SplitsInto longest stream payloads rest
+  long : IsTooLong longest rest
+  asked_is : asked ≡ heard_all s payloads true
+
+when_open : (s : ℕ) (stream : List ℕ) (asked : List Step) (line : Unheard) → IsOpen line → Gave s stream asked line → StandsOpen s stream asked line
+when_open s stream asked line is h =
+    let at : (h.rest ≡ line.rest) × (h.too_long ≡ false) = rw is at h.stands in
+    record {
+      payloads = h.payloads;
+      split = subst (SplitsInto longest stream h.payloads) at.0 h.split;
+      asked_is = h.asked_is ∙ ap (heard_all s h.payloads) at.1 ∙ append-nil (map (heard s) h.payloads);
+    }
+
+when_closed : (s : ℕ) (stream : List ℕ) (asked : List Step) (line : Unheard) → IsClosed line → Gave s stream asked line → StandsClosed s stream asked
+when_closed s stream asked line is h =
+    let at : IsTooLong longest h.rest × (h.too_long ≡ true) = rw is at h.stands in
+    record {
+      payloads = h.payloads;
+      rest = h.rest;
+      split = h.split;
+      long = at.0;
+      asked_is = h.asked_is ∙ ap (heard_all s h.payloads) at.1;
+    }
+
+gave_open : (s : ℕ) (stream : List ℕ) (asked : List Step) (line : Unheard) → IsOpen line → StandsOpen s stream asked line → Gave s stream asked line
+gave_open s stream asked line is h = record {
+  payloads = h.payloads;
+  rest = line.rest;
+  too_long = false;
+  split = h.split;
+  asked_is = h.asked_is ∙ sym (append-nil (map (heard s) h.payloads));
+  stands = rw is (refl, refl);
+}
+
+gave_closed : (s : ℕ) (stream : List ℕ) (asked : List Step) (line : Unheard) → IsClosed line → StandsClosed s stream asked → Gave s stream asked line
+gave_closed s stream asked line is h = record {
+  payloads = h.payloads;
+  rest = h.rest;
+  too_long = true;
+  split = h.split;
+  asked_is = h.asked_is;
+  stands = rw is (h.long, refl);
+}
+
+-- before the first byte nothing was given
+pub gave_nothing : (s : ℕ) → Gave s [] [] start
+gave_nothing s = gave_open s [] [] start refl (record { payloads = []; split = SplitsInto-nil longest []; asked_is = refl })
+
+-- ---- a piece is fed
+
+pub feeds_open : (old new : Unheard) (piece : List ℕ) → IsOpen old → new ≡ with_rest old (old.rest ++ piece) → FeedsStream old piece new
+feeds_open old new piece is appended = λ s stream asked h.
+    let at = when_open s stream asked old is h in
+    let rest : old.rest ++ piece ≡ new.rest = ap (λ (u : Unheard). u.rest) (sym appended) in
+    gave_open s (stream ++ piece) asked new (ap (λ (u : Unheard). u.phase) appended ∙ is) (record {
+      payloads = at.payloads;
+      split = subst (SplitsInto longest (stream ++ piece) at.payloads) rest (SplitsInto-append longest stream at.payloads old.rest piece at.split);
+      asked_is = at.asked_is;
+    })
+
+pub feeds_closed : (old new : Unheard) (piece : List ℕ) → IsClosed old → new ≡ old → FeedsStream old piece new
+feeds_closed old new piece is same = λ s stream asked h.
+    let at = when_closed s stream asked old is h in
+    gave_closed s (stream ++ piece) asked new (ap (λ (u : Unheard). u.phase) same ∙ is) (record {
+      payloads = at.payloads;
+      rest = at.rest ++ piece;
+      split = SplitsInto-append longest stream at.payloads at.rest piece at.split;
+      long = IsTooLong-append longest at.rest piece at.long;
+      asked_is = at.asked_is;
+    })
+
+-- ---- what comes next
+
+pub follows_frame : (old new : Unheard) (x : LineInput) → IsOpen old → GivesFrame old x new → FollowsStream old (next.Input x) new
+follows_frame old new x is gives = λ s stream asked h.
+    let at = when_open s stream asked old is h in
+    let payload = gives.frame.payload in
+    gave_open s stream (asked ++ step_of (input_of s x) ∷ []) new (ap (λ (u : Unheard). u.phase) gives.stays ∙ is) (record {
+      payloads = at.payloads ++ payload ∷ [];
+      split = SplitsInto-frame longest stream at.payloads old.rest payload new.rest at.split gives.frame.begins;
+      asked_is = ap (λ w. w ++ step_of (input_of s x) ∷ []) at.asked_is ∙ ap (λ w. map (heard s) at.payloads ++ w ∷ []) (gives.frame.heard_as s)
+          ∙ sym (map-append (heard s) at.payloads (payload ∷ []));
+    })
+
+follows_end : (old new : Unheard) (x : LineInput) → IsOpen old → GivesEnd old x new → FollowsStream old (next.Input x) new
+follows_end old new x is ends = λ s stream asked h.
+    let at = when_open s stream asked old is h in
+    gave_closed s stream (asked ++ step_of (input_of s x) ∷ []) new (ap (λ (u : Unheard). u.phase) ends.closes) (record {
+      payloads = at.payloads;
+      rest = old.rest;
+      split = at.split;
+      long = ends.too_long;
+      asked_is = ap (λ w. w ++ step_of (input_of s x) ∷ []) at.asked_is ∙ ap (λ (y : LineInput). map (heard s) at.payloads ++ step_of (input_of s y) ∷ []) ends.fault;
+    })
+
+same_gave : (s : ℕ) (stream : List ℕ) (asked : List Step) (old new : Unheard) → new ≡ old → Gave s stream asked old → Gave s stream asked new
+same_gave s stream asked old new same h = subst (λ (u : Unheard). Gave s stream asked u) (sym same) h
+
+pub follows : (old new : Unheard) (x : Next) → Answers old x new → FollowsStream old x new
+follows old new (next.Input x) (is, inl gives) = follows_frame old new x is gives
+follows old new (next.Input x) (is, inr ends) = follows_end old new x is ends
+follows old new next.More (is, unfinished, same) = λ s stream asked h.
+    let at = when_open s stream asked old is h in (
+      same_gave s stream asked old new same h,
+      record {
+        payloads = at.payloads;
+        rest = old.rest;
+        split = at.split;
+        ended = unfinished;
+        asked_is = at.asked_is ∙ sym (append-nil (map (heard s) at.payloads));
+      },
+    )
+follows old new next.Closed (is, same) = λ s stream asked h.
+    let at = when_closed s stream asked old is h in (
+      same_gave s stream asked old new same h,
+      record { payloads = at.payloads; rest = at.rest; split = at.split; ended = at.long; asked_is = at.asked_is },
+    )
