@@ -1,0 +1,6 @@
+mod LastSession
+mod Weights
+mod Owns
+mod Keeping
+mod Counting
+mod Begun

@@ -1,0 +1,21 @@
+//! The history that one lock keeps, without threads and without the lock.
+//!
+//! `Kept` has a house and the history of one era: the state in which the era began, and the steps
+//! since then. Its type keeps that the steps are a legal run from that base to the house's state
+//! (`specs/History.antt`). For each session it counts the requests made and the answers taken, and
+//! the type ties these counts to the steps. A `Seat` has a session's counts too, with a share of each
+//! of two ledgers, whose books stand beside the history: so a history that lost a request or an answer
+//! of its era could not meet its type. A call with a seat whose count isn't its session's is refused
+//! before all else. What each call changes, and what stays, is said in `specs/Calls.antt`.
+#![tactic(auto)]
+
+mod counts;
+mod kept;
+mod seats;
+
+pub use jsp_drive::LineInput;
+pub use kept::{Era, Kept};
+pub use seats::{AskSeat, OutSeat, Seat};
+
+#[cfg(test)]
+mod tests;
