@@ -1,8 +1,9 @@
 //! The command `jsp`: reads its arguments and hands the work to jsp_serve.
 //!
 //! `jsp script NAME..` runs the script on standard input over the spaces NAME.. and prints each
-//! answer; with `--audit` it replays the run first, and compares it with what was sent. It ends with status 0, also after help, with 2 where the arguments can't be used, and
-//! else with 1 after the first fault met.
+//! answer; with `--audit` it replays the run first, and compares it with what was sent. It ends with
+//! status 0, also after help, with 2 where the arguments can't be used, and else with 1 after the
+//! first fault met.
 #![tactic(auto)]
 
 mod arguments;
