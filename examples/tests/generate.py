@@ -11,6 +11,7 @@ from scripts import (
     BAD_JSON, BAD_REQUEST, LEASE, SPACES, SPACES_ARE, TOO_LONG, Case, compact, declare, done, frame, granted, joined,
     main, notify, on_transaction, payload, reading, refused, search, shown, stream, told, write,
 )
+from version_two import CASES
 
 
 def pieces(case):
@@ -241,5 +242,5 @@ def handbacks(case):
 if __name__ == "__main__":
     main([
         pieces, prefixes, in_turn, lengths, nesting, changes, classes, batches, texts, far_row,
-        waiting, waiting_commits, transactions, registrations, handbacks,
+        waiting, waiting_commits, transactions, registrations, handbacks, *CASES,
     ])

@@ -8,7 +8,7 @@ ghost use Rattle.jsp_audit.specs.Changing.{has_its_choice, at_time, after_fault,
 
 use crate::asking::ask_of;
 use jsp_entries::{grant, unblock};
-use jsp_model::{State, Step};
+use jsp_model::{LAST_TIME, State, Step};
 use jsp_reply::Refusal;
 use jsp_requests::{accept, refusal, tell};
 use jsp_state::{close, open};
@@ -52,11 +52,11 @@ pub(crate) fn change(alloc: Global, state: &mut State, step: &Step) -> Result<()
     Ok(())
 }
 
-/// The greatest reading of the clock so far (that it stops at 2^62 is this profile's own).
+/// The greatest reading of the clock so far (that it stops is this profile's own).
 fn set_clock(state: &mut State, time: u64)
     ensures { state.new ≡ at_time state.old time }
 {
-    state.time = state.time.max(time.min(1 << 62));
+    state.time = state.time.max(time.min(LAST_TIME));
 }
 
 /// A request is accepted, or refused: then it changes nothing.

@@ -4,6 +4,7 @@ ghost use Rattle.jsp_model.specs.declared.step.Step.TheVariants as step;
 ghost use Rattle.jsp_model.specs.Refusals.{refusal as refusal_of};
 ghost use Rattle.jsp_model.specs.Requests.{rows_asked};
 ghost use Rattle.jsp_model.specs.Steps.{is_legal as legal, has_its_rows as has_rows};
+ghost use Rattle.jsp_model.specs.declared.limits.TheConstants.{LAST_TIME};
 
 use crate::asking::ask_of;
 use crate::touching::{are_quiet, ask_touches};
@@ -24,7 +25,7 @@ pub(crate) fn may_ask(
     asked: &Asked,
     rows: &[u64],
 ) -> Result<bool, NoMemory>
-    requires { state.now.time ≤ 2 ^ 62 }
+    requires { state.now.time ≤ LAST_TIME }
     ensures { IfOk result (λ b. b ≡ legal state.now (step.Ask session asked.now rows.now)) }
 {
     let spaces = ask_touches(alloc, state, asked.ask())?;
@@ -46,7 +47,7 @@ fn has_its_rows(
     asked: &Asked,
     rows: &[u64],
 ) -> Result<bool, NoMemory>
-    requires { state.now.time ≤ 2 ^ 62 }
+    requires { state.now.time ≤ LAST_TIME }
     ensures { IfOk result (λ b. b ≡ has_rows state.now session asked.now.id rows.now (refusal_of state.now session asked.now.id asked.now.ask) (rows_asked asked.now.ask)) }
 {
     let id = asked.id();
@@ -65,7 +66,7 @@ fn are_chosen(
     ask: &Ask,
     rows: &[u64],
 ) -> Result<bool, NoMemory>
-    requires time { state.now.time ≤ 2 ^ 62 }
+    requires time { state.now.time ≤ LAST_TIME }
     requires accepted { refusal_of state.now session id ask.now ≡ None }
     ensures { IfOk result (λ b. b ≡ has_rows state.now session id rows.now None (rows_asked ask.now)) }
 {

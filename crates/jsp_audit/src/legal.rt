@@ -6,7 +6,7 @@ ghost use Rattle.jsp_model.specs.Steps.{is_legal as legal, is_fault as is_a_faul
 use crate::choosing::{may_ask, may_grant, may_say_nothing};
 use crate::deciding::{may_decide, may_end, may_vote};
 use crate::telling::may_tell;
-use jsp_model::{Image, State, Step};
+use jsp_model::{Image, LAST_SESSION, State, Step};
 use jsp_reply::Refusal;
 use jsp_state::{is_open, waiting};
 use jsp_types::NoMemory;
@@ -48,7 +48,7 @@ pub fn is_legal(alloc: Global, image: &Image, step: &Step) -> Result<bool, NoMem
 fn may_open(state: &State, session: u64) -> bool
     ensures { result ≡ legal state.now (step.Open session) }
 {
-    1 <= session && state.last_session < session && session <= 1 << 31
+    1 <= session && state.last_session < session && session <= LAST_SESSION
 }
 
 #[tactic(auto, unfolding(jsp_model::specs::Steps::is_legal))]

@@ -1,10 +1,11 @@
 -- What an act asks for hands nothing out.
 use Rattle.std.proofs.Common.{◌≡◌, ℕ, inl, inr, Bool, true, false, List, [], ◌∷◌, ◌++◌, None, refl, ap, ◌∙◌}
-use Rattle.std.specs.Prelude.{map, filter, not, MatchBool, if◌then◌else◌, option_to_list}
+use Rattle.std.specs.Prelude.{filter, not, MatchBool, if◌then◌else◌, option_to_list}
 use Rattle.std.specs.List.{list_any, list_all}
 use Rattle.std.proofs.lemmas.List.Elements.{filter-append}
 use Rattle.std.proofs.lemmas.List.Folds.{list_any-append}
 use Rattle.std.proofs.lemmas.Bool.{and_parts, or_parts}
+use Rattle.jsp_wire.specs.declared.ask.Version.{Version}
 use Rattle.jsp_wire.specs.Reading.{Reading, request, bad_json, bad_request, reading}
 use Rattle.jsp_reply.specs.declared.refusal.Refusal.TheVariants.{TooLong}
 use Rattle.jsp_model.specs.declared.state.State.{State}
@@ -18,6 +19,8 @@ use Rattle.jsp_model.proofs.Joining.{own_of-append}
 use Rattle.jsp_drive.specs.declared.acts.Act.{Act}
 use Rattle.jsp_drive.specs.declared.acts.Act.TheVariants as act
 use Rattle.jsp_drive.specs.Heard.{heard, heard_as}
+use Rattle.jsp_drive.specs.Versions.{version_after, heard_each}
+use Rattle.jsp_drive.specs.Lines.{Pending}
 use Rattle.jsp_drive.specs.Tie.{is_hand_out, asked_in, AsksBy, HearsPiece, Asks}
 use Rattle.jsp_drive.proofs.Turning.{is_turn, settles_turn}
 
@@ -39,9 +42,9 @@ heard_keeps s (request r) = refl
 heard_keeps s bad_json = refl
 heard_keeps s (bad_request id) = refl
 
-heards_keep : (s : ℕ) (payloads : List (List ℕ)) → KeepAll (map (heard s) payloads)
-heards_keep s [] = refl
-heards_keep s (p ∷ ps) = keep_more (heard s p) (map (heard s) ps) (heard_keeps s (reading p)) (heards_keep s ps)
+heards_keep : (s : ℕ) (v : Version) (payloads : List (List ℕ)) → KeepAll (heard_each s v payloads)
+heards_keep s v [] = refl
+heards_keep s v (p ∷ ps) = keep_more (heard s v p) (heard_each s (version_after v p) ps) (heard_keeps s (reading v p)) (heards_keep s (version_after v p) ps)
 
 as_kept : (xs ys : List Step) → xs ≡ ys → KeepAll ys → KeepAll xs
 as_kept xs ys is h = ap (list_any is_hand_out) is ∙ h
@@ -49,19 +52,19 @@ as_kept xs ys is h = ap (list_any is_hand_out) is ∙ h
 abbrev too_long : ℕ → List Step
 too_long s = step.Fault s None TooLong ∷ []
 
-long_keeps : (s : ℕ) (payloads : List (List ℕ)) → KeepAll (map (heard s) payloads ++ too_long s)
-long_keeps s payloads = list_any-append is_hand_out (map (heard s) payloads) (too_long s) ∙ rw (heards_keep s payloads) refl
+long_keeps : (s : ℕ) (v : Version) (payloads : List (List ℕ)) → KeepAll (heard_each s v payloads ++ too_long s)
+long_keeps s v payloads = list_any-append is_hand_out (heard_each s v payloads) (too_long s) ∙ rw (heards_keep s v payloads) refl
 
-asks_by_keep : (s : ℕ) (payloads : List (List ℕ)) (rest : List ℕ) (asked : List Step) (stays : Bool) → AsksBy s payloads rest asked stays → KeepAll asked
-asks_by_keep s payloads rest asked stays h =
+asks_by_keep : (s : ℕ) (v : Version) (payloads : List (List ℕ)) (rest : List ℕ) (asked : List Step) (stays : Bool) → AsksBy s v payloads rest asked stays → KeepAll asked
+asks_by_keep s v payloads rest asked stays h =
     elim h [
-      | inl e ↦ as_kept asked (map (heard s) payloads) e.0 (heards_keep s payloads)
-      | inr e ↦ as_kept asked (map (heard s) payloads ++ too_long s) e.0 (long_keeps s payloads)
+      | inl e ↦ as_kept asked (heard_each s v payloads) e.0 (heards_keep s v payloads)
+      | inr e ↦ as_kept asked (heard_each s v payloads ++ too_long s) e.0 (long_keeps s v payloads)
     ]
 
-piece_keeps : (b : Bool) (s : ℕ) (bytes : List ℕ) (asked : List Step) (new : State) (before after : ℕ → List ℕ) (Others : Type 0)
+piece_keeps : (b : Bool) (s : ℕ) (bytes : List ℕ) (asked : List Step) (new : State) (before after : ℕ → Pending) (Others : Type 0)
     → MatchBool b (HearsPiece s bytes asked new before after) ((asked ≡ []) × Others) → KeepAll asked
-piece_keeps true s bytes asked new before after Others h = asks_by_keep s h.hears.payloads h.hears.rest asked (is_open new s) h.hears.asks
+piece_keeps true s bytes asked new before after Others h = asks_by_keep s (before s).version h.hears.payloads h.hears.rest asked (is_open new s) h.hears.asks
 piece_keeps false s bytes asked new before after Others h = as_kept asked [] h.0 refl
 
 turn_keeps : (x : Step) → is_turn x ≡ true → is_hand_out x ≡ false
@@ -84,7 +87,7 @@ turns_keep (x ∷ xs) h =
     let parts = and_parts (is_turn x) (list_all is_turn xs) h in
     keep_more x xs (turn_keeps x parts.0) (turns_keep xs parts.1)
 
-pub asks_keep : (a : Act) (old : State) (asked : List Step) (new : State) (before after : ℕ → List ℕ) → Asks a old asked new before after → KeepAll asked
+pub asks_keep : (a : Act) (old : State) (asked : List Step) (new : State) (before after : ℕ → Pending) → Asks a old asked new before after → KeepAll asked
 asks_keep (act.Open s) old asked new before after h = as_kept asked _ h.0 (maybe_step (accepts old (input.Open s)) (step.Open s) refl)
 asks_keep (act.Piece s bytes) old asked new before after h = piece_keeps (is_open old s) s bytes.items asked new before after _ h
 asks_keep (act.Shut s) old asked new before after h = as_kept asked _ h.0 (maybe_step (is_open old s) (step.Shut s) refl)

@@ -1,3 +1,5 @@
+pub mod Splitting
+pub mod Readings
 pub mod Asking
 pub mod Quieting
 pub mod Turning

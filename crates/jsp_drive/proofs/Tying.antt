@@ -30,7 +30,7 @@ use Rattle.jsp_drive.specs.declared.acts.Act.TheVariants as act
 use Rattle.jsp_drive.specs.declared.acts.Sent.{Sent}
 use Rattle.jsp_drive.specs.Heard.{framed}
 use Rattle.jsp_drive.specs.Line.{Unheard}
-use Rattle.jsp_drive.specs.Lines.{AreLines, pending, rest_of}
+use Rattle.jsp_drive.specs.Lines.{Pending, nothing, AreLines, pending, held_by}
 use Rattle.jsp_drive.specs.Tie.{is_hand_out, asked_in, HearsPiece, Asks, QuietsFirst, frame_for, Part, Tied, bytes_to}
 use Rattle.jsp_drive.specs.Calls.{Performs, frames_sent, Sends}
 use Rattle.jsp_quiet.specs.Steady.{IsSteady}
@@ -98,12 +98,12 @@ pub between_at_first : (names : List (List ℕ)) → Between (empty names)
 between_at_first names = record { empty = refl; nothing_due = due_at_first names; steady = steady_empty names; past = none_at_first names }
 
 -- outboxes don't matter to what an act asks for
-piece_sent : (b : Bool) (s : ℕ) (bytes : List ℕ) (asked : List Step) (new : State) (before after : ℕ → List ℕ) (Others : Type 0)
+piece_sent : (b : Bool) (s : ℕ) (bytes : List ℕ) (asked : List Step) (new : State) (before after : ℕ → Pending) (Others : Type 0)
     → MatchBool b (HearsPiece s bytes asked new before after) Others → MatchBool b (HearsPiece s bytes asked (record new { outboxes = [] }) before after) Others
 piece_sent true s bytes asked new before after Others h = record { hears = h.hears; others = h.others }
 piece_sent false s bytes asked new before after Others h = h
 
-asks_sent : (a : Act) (old : State) (asked : List Step) (new : State) (before after : ℕ → List ℕ) → Asks a old asked new before after → Asks a old asked (record new { outboxes = [] }) before after
+asks_sent : (a : Act) (old : State) (asked : List Step) (new : State) (before after : ℕ → Pending) → Asks a old asked new before after → Asks a old asked (record new { outboxes = [] }) before after
 asks_sent (act.Open s) old asked new before after h = h
 asks_sent (act.Piece s bytes) old asked new before after h = piece_sent (is_open old s) s bytes.items asked new before after _ h
 asks_sent (act.Shut s) old asked new before after h = h
@@ -203,7 +203,7 @@ module _ {S : Type 0} where
   pub record Driving (start now : State) (lines : Lines S) (n : ℕ) (acts left : List Act) (steps : List Step) (sent : List Sent) : Type 0 where
     pub between : Between now
     pub are_lines : AreLines lines
-    pub tied : (more : List Step) (later : List Sent) → Tied now (pending lines) n left more later → Tied start (λ s. []) 0 acts (steps ++ more) (sent ++ later)
+    pub tied : (more : List Step) (later : List Sent) → Tied now (pending lines) n left more later → Tied start (λ s. nothing) 0 acts (steps ++ more) (sent ++ later)
 
   -- before the first act, with no line
   pub driving_start : (st : State) (lines : Lines S) (acts : List Act) → Between st → lines.entries ≡ [] → Driving st st lines 0 acts acts [] []
@@ -211,8 +211,8 @@ module _ {S : Type 0} where
     between = b;
     are_lines = λ s. rw none tt;
     tied = λ more later rest. (
-        let same : pending lines ≡ (λ s. []) = ap (λ (es : List (ℕ × Unheard)). (λ (s : ℕ). rest_of (lookup (nat_eq s) es))) none in
-        subst (λ (f : ℕ → List ℕ). Tied st f 0 acts more later) same rest);
+        let same : pending lines ≡ (λ s. nothing) = ap (λ (es : List (ℕ × Unheard)). (λ (s : ℕ). held_by (lookup (nat_eq s) es))) none in
+        subst (λ (f : ℕ → Pending). Tied st f 0 acts more later) same rest);
   }
 
   pub driving_more : (start st now : State) (lines lines' : Lines S) (n : ℕ) (a : Act) (acts left : List Act) (log log' : List Step) (sent sent' : List Sent)
@@ -229,7 +229,7 @@ module _ {S : Type 0} where
       }
 
   pub driving_end : (start now : State) (lines : Lines S) (n : ℕ) (acts left : List Act) (log : List Step) (sent : List Sent)
-      → Driving start now lines n acts left log sent → left ≡ [] → Tied start (λ s. []) 0 acts log sent
+      → Driving start now lines n acts left log sent → left ≡ [] → Tied start (λ s. nothing) 0 acts log sent
   driving_end start now lines n acts left log sent d none =
       let rest : Tied now (pending lines) n left [] [] = rw none (refl, refl) in
       let all = d.tied [] [] rest in
@@ -238,7 +238,7 @@ module _ {S : Type 0} where
 -- ---- what follows of the whole run
 
 -- the steps are one run
-pub tied_run : (st : State) (before : ℕ → List ℕ) (n : ℕ) (acts : List Act) (steps : List Step) (sent : List Sent) → Tied st before n acts steps sent → IsRun st steps
+pub tied_run : (st : State) (before : ℕ → Pending) (n : ℕ) (acts : List Act) (steps : List Step) (sent : List Sent) → Tied st before n acts steps sent → IsRun st steps
 tied_run st before n [] steps sent h = ap (λ w. is_run st w) h.0
 tied_run st before n (a ∷ acts) steps sent h =
     ap (λ w. is_run st w) h.steps_are
@@ -287,7 +287,7 @@ each_bytes n s told (t ∷ to) h out =
     each_bytes_at n s t told to (eqb t s) refl parts.0 out (λ o. each_bytes n s told to parts.1 o)
 
 -- The bytes that are sent to a session are the frames of what the run says to it.
-pub tied_bytes : (s : ℕ) (st : State) (before : ℕ → List ℕ) (n : ℕ) (acts : List Act) (steps : List Step) (sent : List Sent) → Tied st before n acts steps sent
+pub tied_bytes : (s : ℕ) (st : State) (before : ℕ → Pending) (n : ℕ) (acts : List Act) (steps : List Step) (sent : List Sent) → Tied st before n acts steps sent
     → bytes_to s sent ≡ flat_map framed (said_to s st steps)
 tied_bytes s st before n [] steps sent h = ap (bytes_to s) h.1 ∙ ap (λ w. flat_map framed (said_to s st w)) (sym h.0)
 tied_bytes s st before n (a ∷ acts) steps sent h =

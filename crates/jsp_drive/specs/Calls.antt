@@ -1,7 +1,6 @@
 -- What the calls within an act do.
 use Rattle.std.specs.Prelude.{ℕ, ◌≡◌, true, List, [], ◌∷◌, ◌++◌, Some, None, map, flat_map, option_to_list, if◌then◌else◌, IsTrue}
 use Rattle.std.specs.HashMap.{HashMap}
-use Rattle.jsp_frame.specs.Stream.{SplitsInto}
 use Rattle.jsp_model.specs.declared.state.State.{State}
 use Rattle.jsp_model.specs.declared.state.Outbox.{Outbox}
 use Rattle.jsp_model.specs.declared.step.Step.{Step}
@@ -15,7 +14,7 @@ use Rattle.jsp_model.specs.House.{Makes, own_of, touched, accepts, step_of}
 use Rattle.jsp_quiet.specs.Steady.{IsSteady}
 use Rattle.jsp_drive.specs.declared.acts.Act.{Act}
 use Rattle.jsp_drive.specs.declared.acts.Sent.{Sent}
-use Rattle.jsp_drive.specs.Heard.{longest}
+use Rattle.jsp_drive.specs.Versions.{version_behind, SplitsInto}
 use Rattle.jsp_drive.specs.Line.{Unheard, IsOpen}
 use Rattle.jsp_drive.specs.Lines.{AreLines, pending}
 use Rattle.jsp_drive.specs.Tie.{Asks, AsksBy, QuietsFirst, asked_in, frame_for}
@@ -43,8 +42,9 @@ pub record Serves (s : ℕ) (old new : State) (log log' : List Step) (line line'
   pub steps : List Step
   pub makes : Makes old new log log' steps
   pub payloads : List (List ℕ)
-  pub split : SplitsInto longest line.rest payloads line'.rest
-  pub asks : AsksBy s payloads line'.rest (own_of steps) (is_open new s)
+  pub split : SplitsInto line.version line.rest payloads line'.rest
+  pub version : line'.version ≡ version_behind line.version payloads
+  pub asks : AsksBy s line.version payloads line'.rest (own_of steps) (is_open new s)
   pub nothing_due : due old ≡ None → due new ≡ None
   pub quiet : IsSteady old → IsTrue (are_quiet new (touched old steps))
   pub goes_on : is_open new s ≡ true → IsOpen line'

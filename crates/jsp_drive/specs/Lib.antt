@@ -1,4 +1,5 @@
 pub mod Heard
+pub mod Versions
 pub mod Line
 pub mod Lines
 pub mod Tie

@@ -1,6 +1,7 @@
 -- How acts, steps and frames are tied.
 use Rattle.std.specs.Prelude.{ℕ, ◌≡◌, ◌+◌, ◌==◌, Bool, true, false, not, List, [], ◌∷◌, ◌++◌, Some, None, map, option_to_list, flat_map, filter, ◌⊎◌, if◌then◌else◌, MatchBool, IsTrue}
-use Rattle.jsp_frame.specs.Stream.{SplitsInto, IsUnfinished, IsTooLong}
+use Rattle.jsp_wire.specs.declared.ask.Version.{Version}
+use Rattle.jsp_frame.specs.Stream.{IsUnfinished, IsTooLong}
 use Rattle.jsp_reply.specs.declared.refusal.Refusal.TheVariants.{TooLong}
 use Rattle.jsp_reply.specs.declared.reply.Reply.{Reply}
 use Rattle.jsp_model.specs.declared.state.State.{State}
@@ -17,8 +18,9 @@ use Rattle.jsp_model.specs.House.{own_of, touched, accepts, shuts}
 use Rattle.jsp_drive.specs.declared.acts.Act.{Act}
 use Rattle.jsp_drive.specs.declared.acts.Act.TheVariants as act
 use Rattle.jsp_drive.specs.declared.acts.Sent.{Sent}
-use Rattle.jsp_drive.specs.Heard.{longest, heard, framed}
-use Rattle.jsp_drive.specs.Lines.{Same, SameBut}
+use Rattle.jsp_drive.specs.Heard.{framed}
+use Rattle.jsp_drive.specs.Versions.{longest, version_behind, heard_each, SplitsInto}
+use Rattle.jsp_drive.specs.Lines.{Pending, nothing, Same, SameBut}
 
 -- ---- what an act asks for
 
@@ -30,32 +32,33 @@ is_hand_out _ = false
 abbrev pub asked_in : List Step → List Step
 asked_in steps = filter (λ x. not (is_hand_out x)) (own_of steps)
 
--- What a session asks by frames of these payloads and a rest: each payload in its turn, all that are there while it
--- stays open, and a fault where the rest begins with a length past the limit, which closes it.
-abbrev pub AsksBy : ℕ → List (List ℕ) → List ℕ → List Step → Bool → Type 0
-AsksBy s payloads rest asked stays =
-    ((asked ≡ map (heard s) payloads) × (stays ≡ true → IsUnfinished longest rest))
-    ⊎ ((asked ≡ map (heard s) payloads ++ step.Fault s None TooLong ∷ []) × IsTooLong longest rest × (stays ≡ false))
+-- What a session asks by frames of these payloads and a rest, on a line that has version v at the first: each payload
+-- in its turn, all that are there while it stays open, and a fault where the rest begins with a length past the limit,
+-- which closes it.
+abbrev pub AsksBy : ℕ → Version → List (List ℕ) → List ℕ → List Step → Bool → Type 0
+AsksBy s v payloads rest asked stays =
+    ((asked ≡ heard_each s v payloads) × (stays ≡ true → IsUnfinished (longest (version_behind v payloads)) rest))
+    ⊎ ((asked ≡ heard_each s v payloads ++ step.Fault s None TooLong ∷ []) × IsTooLong (longest (version_behind v payloads)) rest × (stays ≡ false))
 
--- The bytes are frames and a rest, which stays pending while the session is open.
-pub record Hears (s : ℕ) (bytes after : List ℕ) (asked : List Step) (stays : Bool) : Type 0 where
+-- The bytes are frames and a rest, which stays pending while the session is open, and so does the version behind them.
+pub record Hears (s : ℕ) (v : Version) (bytes : List ℕ) (after : Pending) (asked : List Step) (stays : Bool) : Type 0 where
   pub payloads : List (List ℕ)
   pub rest : List ℕ
-  pub split : SplitsInto longest bytes payloads rest
-  pub asks : AsksBy s payloads rest asked stays
-  pub after_is : after ≡ (if stays then rest else [])
+  pub split : SplitsInto v bytes payloads rest
+  pub asks : AsksBy s v payloads rest asked stays
+  pub after_is : after ≡ (if stays then record { version = version_behind v payloads; rest = rest } else nothing)
 
 -- what was pending and the piece, in one
-pub record HearsPiece (s : ℕ) (bytes : List ℕ) (asked : List Step) (new : State) (before after : ℕ → List ℕ) : Type 0 where
-  pub hears : Hears s (before s ++ bytes) (after s) asked (is_open new s)
+pub record HearsPiece (s : ℕ) (bytes : List ℕ) (asked : List Step) (new : State) (before after : ℕ → Pending) : Type 0 where
+  pub hears : Hears s (before s).version ((before s).rest ++ bytes) (after s) asked (is_open new s)
   pub others : SameBut s before after
 
--- what an act asks for, and which bytes it leaves pending
-abbrev pub Asks : Act → State → List Step → State → (ℕ → List ℕ) → (ℕ → List ℕ) → Type 0
+-- what an act asks for, and what it leaves pending
+abbrev pub Asks : Act → State → List Step → State → (ℕ → Pending) → (ℕ → Pending) → Type 0
 Asks (act.Open s) old asked new before after = (asked ≡ (if accepts old (input.Open s) then step.Open s ∷ [] else [])) × Same before after
 Asks (act.Piece s bytes) old asked new before after =
     MatchBool (is_open old s) (HearsPiece s bytes.items asked new before after) ((asked ≡ []) × Same before after)
-Asks (act.Shut s) old asked new before after = (asked ≡ shuts old s) × (is_open new s ≡ false) × (after s ≡ []) × SameBut s before after
+Asks (act.Shut s) old asked new before after = (asked ≡ shuts old s) × (is_open new s ≡ false) × (after s ≡ nothing) × SameBut s before after
 Asks (act.Clock t) old asked new before after = (asked ≡ step.Clock t ∷ []) × Same before after
 Asks act.Settle old asked new before after = (asked ≡ option_to_list (settle_step old)) × Same before after
 
@@ -82,7 +85,7 @@ QuietsFirst _ old new = Unit {0}
 -- ---- the parts
 
 -- the part of a run that an act makes
-pub record Part (n : ℕ) (act : Act) (st : State) (before after : ℕ → List ℕ) (part : List Step) (sent : List Sent) : Type 0 where
+pub record Part (n : ℕ) (act : Act) (st : State) (before after : ℕ → Pending) (part : List Step) (sent : List Sent) : Type 0 where
   pub run : IsRun st part
   pub asks : Asks act st (asked_in part) (state_after st part) before after
   pub nothing_due : due (state_after st part) ≡ None
@@ -92,25 +95,25 @@ pub record Part (n : ℕ) (act : Act) (st : State) (before after : ℕ → List 
   pub outgoing : Outgoing n st part sent
 
 -- a part, and then the rest
-pub record First (n : ℕ) (act : Act) (st : State) (before : ℕ → List ℕ) (steps : List Step) (sent : List Sent) (Rest : State → (ℕ → List ℕ) → List Step → List Sent → Type 0) : Type 0 where
+pub record First (n : ℕ) (act : Act) (st : State) (before : ℕ → Pending) (steps : List Step) (sent : List Sent) (Rest : State → (ℕ → Pending) → List Step → List Sent → Type 0) : Type 0 where
   pub part : List Step
   pub more : List Step
   pub now : List Sent
   pub later : List Sent
-  pub after : ℕ → List ℕ
+  pub after : ℕ → Pending
   pub steps_are : steps ≡ part ++ more
   pub sent_is : sent ≡ now ++ later
   pub it : Part n act st before after part now
   pub rest : Rest (state_after st part) after more later
 
 -- The steps are cut into a part for each act, in order, and so is what is sent.
-abbrev pub Tied : State → (ℕ → List ℕ) → ℕ → List Act → List Step → List Sent → Type 0
+abbrev pub Tied : State → (ℕ → Pending) → ℕ → List Act → List Step → List Sent → Type 0
 Tied st before n [] steps sent = (steps ≡ []) × (sent ≡ [])
 Tied st before n (act ∷ acts) steps sent = First n act st before steps sent (λ st' after more later. Tied st' after (n + 1) acts more later)
 
 -- from the empty state of these spaces, with nothing pending
 abbrev pub IsTied : List (List ℕ) → List Act → List Step → List Sent → Type 0
-IsTied spaces acts steps sent = Tied (empty spaces) (λ s. []) 0 acts steps sent
+IsTied spaces acts steps sent = Tied (empty spaces) (λ s. nothing) 0 acts steps sent
 
 -- the bytes that are sent to a session
 abbrev pub bytes_to : ℕ → List Sent → List ℕ

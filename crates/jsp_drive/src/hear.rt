@@ -3,13 +3,13 @@ ghost use Rattle.std.specs.Prelude.{◌≡◌, ℕ, IfOk, IsTrue};
 ghost use Rattle.jsp_model.specs.declared.state.State.{State};
 ghost use Rattle.jsp_model.specs.Lookup.{is_open};
 ghost use Rattle.jsp_model.specs.House.{is_input, step_of, accepts};
-ghost use Rattle.jsp_drive.specs.Heard.{heard};
-ghost use Rattle.jsp_drive.specs.Line.{IsHeardAs, input_of, is_line_input};
+ghost use Rattle.jsp_drive.specs.Versions.{version_asked, version_after};
+ghost use Rattle.jsp_drive.specs.Line.{IsHeardAs, input_of, is_line_input, version_by};
 
 use jsp_model::Input;
 use jsp_reply::Refusal;
 use jsp_types::NoMemory;
-use jsp_wire::{Asked, WireFault, read_ask};
+use jsp_wire::{Ask, Asked, Version, WireFault, read_ask_in};
 use std::alloc::Global;
 
 /// What a session asks, without the session's number.
@@ -39,14 +39,35 @@ impl LineInput {
             },
         }
     }
+
+    /// The version of the line behind it, where it was `version`.
+    pub(crate) fn version_behind(&self, version: Version) -> Version
+        ensures { result ≡ version_by version self.now }
+    {
+        match self {
+            LineInput::Ask(asked) => version_asked(asked.ask(), version),
+            LineInput::Fault(_, _) => version,
+        }
+    }
 }
 
-/// What a session asks by a payload: its request, or its one fault.
-pub(crate) fn hear(alloc: Global, payload: &[u8]) -> Result<LineInput, NoMemory>
-    ensures heard { IfOk result (IsHeardAs payload.now) }
+/// The version that a `hello` names; else the one that there is.
+fn version_asked(ask: &Ask, version: Version) -> Version
+    ensures { result ≡ version_asked version ask.now }
+{
+    match ask {
+        Ask::Hello { version } => *version,
+        _ => version,
+    }
+}
+
+/// What a session asks by a payload on a line of this version: its request, or its one fault.
+pub(crate) fn hear(alloc: Global, version: Version, payload: &[u8]) -> Result<LineInput, NoMemory>
+    ensures heard { IfOk result (IsHeardAs version payload.now) }
+    ensures behind { IfOk result (λ x. version_by version x ≡ version_after version payload.now) }
     ensures input { IfOk result (λ x. IsTrue (is_line_input x)) }
 {
-    match read_ask(alloc, payload) {
+    match read_ask_in(alloc, version, payload) {
         Ok(asked) => Ok(LineInput::Ask(asked)),
         Err(WireFault::BadJson) => Ok(LineInput::Fault(None, Refusal::BadJson)),
         Err(WireFault::BadRequest { id }) => Ok(LineInput::Fault(id, Refusal::BadRequest)),

@@ -13,6 +13,9 @@
 //!
 //! A [`Line`] is the one way from a session's bytes to what it asks, in whatever pieces they come
 //! (`specs/Line.antt`, and by whole streams `specs/Giving.antt`). `drive` keeps one for each session.
+//! A `hello` changes the version of a line, and with it the limit of the frames behind it: a stream
+//! is read by a scan over its frames whose state is the version (`specs/Versions.antt`), and has one
+//! reading alone (`one_reading`).
 #![tactic(auto)]
 
 mod acts;
@@ -20,6 +23,7 @@ mod hear;
 mod line;
 mod lines;
 mod perform;
+mod reading;
 mod run;
 mod send;
 mod serve;
@@ -28,5 +32,6 @@ mod stop;
 pub use acts::{Act, Driven, Sent};
 pub use hear::LineInput;
 pub use line::{Line, Next};
+pub use reading::one_reading;
 pub use run::drive;
 pub use send::encode;

@@ -1,7 +1,7 @@
 //! What a session asks by its bytes, piece by piece.
 ghost use Rattle.std.specs.Prelude.{◌≡◌, ◌++◌, ℕ, [], IfOk, OnOk, OnErr, IsOk, IsErr, IsTrue};
 ghost use Rattle.jsp_frame.specs.Stream.{HasNoFrame};
-ghost use Rattle.jsp_drive.specs.Heard.{longest};
+ghost use Rattle.jsp_drive.specs.Versions.{longest};
 ghost use Rattle.jsp_drive.specs.Line.{start, with_rest, IsOpen, IsClosed, IsOutOfMemory, IsCutting, HearsNext, Answers, is_next};
 ghost use Rattle.jsp_drive.specs.Giving.{Gave, FeedsStream, FollowsStream};
 
@@ -9,11 +9,19 @@ use crate::hear::{LineInput, hear};
 use jsp_frame::{Cut, Unframer};
 use jsp_reply::Refusal;
 use jsp_types::NoMemory;
+use jsp_wire::Version;
 use std::alloc::Global;
 use std::marker::Model;
 
 /// The longest payload of a request, in bytes (this profile's own).
-const LIMIT: u32 = 65_536;
+fn limit(version: Version) -> u32
+    ensures { result ≡ longest version }
+{
+    match version {
+        Version::One => 65_536,
+        Version::Two => 1_048_576,
+    }
+}
 
 /// What comes next on a line.
 #[derive(Drop)]
@@ -35,13 +43,17 @@ enum Phase {
 
 /// The bytes of one session that come in pieces, as what it asks by them.
 ///
-/// Clauses see the bytes that are in no frame yet, and whether inputs can still come. Each frame is
-/// one input, in order; a length past 65,536 is one fault, the last input. Once out of memory every
-/// `feed` and `next` is [`NoMemory`], and what is held then is left open.
+/// Clauses see the bytes that are in no frame yet, the version of the line behind those that are, and
+/// whether inputs can still come. Each frame is one input, in order, read in the version that the
+/// line has at it. It begins in version 1, and a `hello` changes it from the next frame on. A length
+/// past the limit of the version, 65,536 bytes in version 1 and 1,048,576 in version 2, is one
+/// fault, the last input. Once out of memory every `feed` and `next` is [`NoMemory`], and what is
+/// held then is left open.
 #[derive(Drop)]
 pub struct Line {
     alloc: Global,
     frames: Unframer,
+    version: Version,
     phase: Phase,
 }
 
@@ -50,9 +62,9 @@ impl Model for Line {
 
     ghost Value = { Unheard };
 
-    ghost view = { λ l. record { rest = l.frames.rest; phase = l.phase } };
+    ghost view = { λ l. record { rest = l.frames.rest; version = l.version; phase = l.phase } };
 
-    ghost invariant = { λ l. CutsFor l.phase l.frames };
+    ghost invariant = { λ l. CutsFor l.phase l.version l.frames };
 }
 
 impl Line {
@@ -63,7 +75,8 @@ impl Line {
     {
         Line {
             alloc,
-            frames: Unframer::new(alloc, LIMIT),
+            frames: Unframer::new(alloc, limit(Version::One)),
+            version: Version::One,
             phase: Phase::Open,
         }
     }
@@ -93,14 +106,16 @@ impl Line {
 
     /// What the session asks by the next frame, which is cut off the rest, or why there is nothing. A
     /// length past the limit is a fault as soon as its fourth byte is there, and the line is closed
-    /// from then on. Memory is taken only for a frame.
+    /// from then on. A `hello` changes the version and the limit of what follows it, also of bytes
+    /// that are there already. Memory is taken only for a frame.
     pub fn next(&mut self) -> Result<Next, NoMemory>
         ensures ok { IfOk result (λ next. Answers self.old next self.new) }
         // By the stream: this is what the session asks next, and all was given where it is no input.
         ensures stream { IfOk result (λ next. FollowsStream self.old next self.new) }
         // What is given may be acted.
         ensures input { IfOk result (λ next. IsTrue (is_next next)) }
-        ensures no_frame { IsOpen self.old → HasNoFrame longest self.old.rest → IsOk result }
+        ensures no_frame { IsOpen self.old
+            → HasNoFrame (longest self.old.version) self.old.rest → IsOk result }
         ensures closed { IsClosed self.old → IsOk result }
         ensures out_of_memory { IsOutOfMemory self.old → IsErr result }
         ensures err { OnErr result (IsOutOfMemory self.new) }
@@ -110,8 +125,13 @@ impl Line {
             Phase::Closed => return Ok(Next::Closed),
             Phase::Open => {}
         }
-        match hear_next(self.alloc, &mut self.frames) {
-            Ok(Next::Input(input)) => Ok(Next::Input(input)),
+        match hear_next(self.alloc, self.version, &mut self.frames) {
+            Ok(Next::Input(input)) => {
+                let version = input.version_behind(self.version);
+                self.frames.widen(limit(version));
+                self.version = version;
+                Ok(Next::Input(input))
+            }
             Ok(Next::More) => Ok(Next::More),
             Ok(Next::Closed) => {
                 self.phase = Phase::Closed;
@@ -127,14 +147,14 @@ impl Line {
 
 /// What is asked by the next frame, which is cut off. `Closed` says that its length is past the
 /// limit.
-fn hear_next(alloc: Global, frames: &mut Unframer) -> Result<Next, NoMemory>
-    requires { IsCutting frames.old }
-    ensures ok { IfOk result (λ next. HearsNext frames.old next frames.new) }
+fn hear_next(alloc: Global, version: Version, frames: &mut Unframer) -> Result<Next, NoMemory>
+    requires { IsCutting version frames.old }
+    ensures ok { IfOk result (λ next. HearsNext version frames.old next frames.new) }
     ensures input { IfOk result (λ next. IsTrue (is_next next)) }
-    ensures no_frame { HasNoFrame longest frames.old.rest → IsOk result }
+    ensures no_frame { HasNoFrame (longest version) frames.old.rest → IsOk result }
 {
     match frames.next()? {
-        Cut::Frame(payload) => Ok(Next::Input(hear(alloc, payload.as_slice())?)),
+        Cut::Frame(payload) => Ok(Next::Input(hear(alloc, version, payload.as_slice())?)),
         Cut::More => Ok(Next::More),
         Cut::TooLong => Ok(Next::Closed),
     }

@@ -1,7 +1,7 @@
-//! The lines of open sessions: their bytes that are in no frame yet.
-ghost use Rattle.std.specs.Prelude.{◌≡◌, [], OnOk};
+//! The lines of open sessions: their versions, and their bytes that are in no frame yet.
+ghost use Rattle.std.specs.Prelude.{◌≡◌, OnOk};
 ghost use Rattle.jsp_drive.specs.Line.{IsOpen};
-ghost use Rattle.jsp_drive.specs.Lines.{AreLines, SetsLine, pending};
+ghost use Rattle.jsp_drive.specs.Lines.{AreLines, SetsLine, held, nothing, pending};
 
 use crate::line::Line;
 use jsp_types::NoMemory;
@@ -15,8 +15,8 @@ pub(crate) type Lines = HashMap<u64, Line>;
 pub(crate) fn take_line(alloc: Global, lines: &mut Lines, session: u64) -> Line
     requires { AreLines lines.old }
     ensures line { IsOpen result }
-    ensures rest { result.rest ≡ pending lines.old session }
-    ensures lines { SetsLine session [] lines.old lines.new }
+    ensures held { held result ≡ pending lines.old session }
+    ensures lines { SetsLine session nothing lines.old lines.new }
 {
     match lines.remove(&session) {
         Some(line) => line,
@@ -28,7 +28,7 @@ pub(crate) fn take_line(alloc: Global, lines: &mut Lines, session: u64) -> Line
 pub(crate) fn put_line(lines: &mut Lines, session: u64, line: Line) -> Result<(), NoMemory>
     requires lines { AreLines lines.old }
     requires line { IsOpen line }
-    ensures { OnOk result (SetsLine session line.rest lines.old lines.new) }
+    ensures { OnOk result (SetsLine session (held line) lines.old lines.new) }
 {
     lines.insert(session, line)?;
     Ok(())
@@ -37,7 +37,7 @@ pub(crate) fn put_line(lines: &mut Lines, session: u64, line: Line) -> Result<()
 /// Drops a session's line, and what is pending there.
 pub(crate) fn drop_line(lines: &mut Lines, session: u64)
     requires { AreLines lines.old }
-    ensures { SetsLine session [] lines.old lines.new }
+    ensures { SetsLine session nothing lines.old lines.new }
 {
     lines.remove(&session);
 }

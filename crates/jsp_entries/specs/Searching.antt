@@ -11,11 +11,12 @@ use Rattle.jsp_model.specs.Lookup.{waiting_count}
 use Rattle.jsp_model.specs.Requests.{RowRequest, would_block}
 use Rattle.jsp_model.specs.Answers.{is_many}
 use Rattle.jsp_model.specs.Refusals.{Tests, is_negative, is_used_up}
+use Rattle.jsp_model.specs.declared.limits.TheConstants.{MOST_WAITING}
 
 abbrev pub waiting_tests : State → ℕ → ℕ → RowRequest → Tests
 waiting_tests st s id q =
     (is_negative q.timeout, BadTimeout)
-    ∷ (would_block st s id q && nat_le 64 (waiting_count st s), TooManyWaiting)
+    ∷ (would_block st s id q && nat_le MOST_WAITING (waiting_count st s), TooManyWaiting)
     ∷ (would_block st s id q && is_used_up st 1, UsedUp)
     ∷ []
 

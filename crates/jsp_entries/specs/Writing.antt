@@ -10,11 +10,12 @@ use Rattle.jsp_model.specs.Refusals.{Tests, rows_in, is_used_up}
 use Rattle.jsp_model.specs.Changes.{new_row}
 use Rattle.jsp_transactions.specs.declared.owing.News.TheVariants.{Written}
 use Rattle.jsp_transactions.specs.Owing.{owed}
+use Rattle.jsp_model.specs.declared.limits.TheConstants.{MOST_ROWS}
 
 abbrev pub granting_tests : State → WriteRequest → Tests
 granting_tests st w =
     (is_none (granted w.lease), BadLease)
-    ∷ (nat_lt 65536 (rows_in st (place_of st w.space) + length w.entries), SpaceFull)
+    ∷ (nat_lt MOST_ROWS (rows_in st (place_of st w.space) + length w.entries), SpaceFull)
     ∷ (is_used_up st (length w.entries), UsedUp)
     ∷ []
 

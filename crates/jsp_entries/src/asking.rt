@@ -11,6 +11,7 @@ ghost use Rattle.jsp_model.specs.Changes.{give_or_block, write as written};
 ghost use Rattle.jsp_model.specs.Answers.{rows_answer};
 ghost use Rattle.jsp_model.specs.Steps.{is_choice};
 ghost use Rattle.jsp_entries.specs.Asking.{rows_of, write_of};
+ghost use Rattle.jsp_model.specs.declared.limits.TheConstants.{LAST_NUMBER, LAST_TIME};
 
 use crate::blocking::{RowsAsked, as_blocked};
 use crate::search::{accept_search, answer_search, refuse_search};
@@ -83,7 +84,7 @@ pub fn refuse_one(
     form: Form,
     search: &Search,
 ) -> Result<Option<Refusal>, NoMemory>
-    requires { state.now.time ≤ 2 ^ 62 }
+    requires { state.now.time ≤ LAST_TIME }
     ensures { IfOk result (λ r. r ≡ first_that (rows_tests state.now session id (one_of form search.now))) }
 {
     refuse_search(alloc, state, session, id, &one_row(form, search))
@@ -97,7 +98,7 @@ pub fn refuse_many(
     id: u64,
     search: &TakeMany,
 ) -> Result<Option<Refusal>, NoMemory>
-    requires { state.now.time ≤ 2 ^ 62 }
+    requires { state.now.time ≤ LAST_TIME }
     ensures { IfOk result (λ r. r ≡ first_that (rows_tests state.now session id (many_of search.now))) }
 {
     refuse_search(alloc, state, session, id, &many_rows(search))
@@ -113,8 +114,8 @@ pub fn accept_one(
     form: Form,
     search: &Search,
 ) -> Result<(), NoMemory>
-    requires time { state.old.time ≤ 2 ^ 62 }
-    requires numbers { state.old.next_number ≤ 2 ^ 62 + 1 }
+    requires time { state.old.time ≤ LAST_TIME }
+    requires numbers { state.old.next_number ≤ LAST_NUMBER + 1 }
     requires rows { IsTrue (are_rising 0 state.old.next_number (map (λ r. r.number) state.old.rows)) }
     requires transactions { IsTrue (are_rising 0 state.old.next_number (map (λ t. t.number) state.old.transactions)) }
     requires accepted { first_that (rows_tests state.old session id (one_of form search.now)) ≡ None }
@@ -135,8 +136,8 @@ pub fn accept_many(
     rows: &[u64],
     search: &TakeMany,
 ) -> Result<(), NoMemory>
-    requires time { state.old.time ≤ 2 ^ 62 }
-    requires numbers { state.old.next_number ≤ 2 ^ 62 + 1 }
+    requires time { state.old.time ≤ LAST_TIME }
+    requires numbers { state.old.next_number ≤ LAST_NUMBER + 1 }
     requires rows { IsTrue (are_rising 0 state.old.next_number (map (λ r. r.number) state.old.rows)) }
     requires transactions { IsTrue (are_rising 0 state.old.next_number (map (λ t. t.number) state.old.transactions)) }
     requires accepted { first_that (rows_tests state.old session id (many_of search.now)) ≡ None }
@@ -158,7 +159,7 @@ pub fn answer_one(
     form: Form,
     search: &Search,
 ) -> Result<Option<Reply>, NoMemory>
-    requires time { state.now.time ≤ 2 ^ 62 }
+    requires time { state.now.time ≤ LAST_TIME }
     requires accepted { first_that (rows_tests state.now session id (one_of form search.now)) ≡ None }
     ensures { IfOk result (λ r. option_to_list r ≡ rows_answer state.now session id rows.now (one_of form search.now)) }
 {
@@ -175,7 +176,7 @@ pub fn answer_many(
     rows: &[u64],
     search: &TakeMany,
 ) -> Result<Option<Reply>, NoMemory>
-    requires time { state.now.time ≤ 2 ^ 62 }
+    requires time { state.now.time ≤ LAST_TIME }
     requires accepted { first_that (rows_tests state.now session id (many_of search.now)) ≡ None }
     ensures { IfOk result (λ r. option_to_list r ≡ rows_answer state.now session id rows.now (many_of search.now)) }
 {
@@ -192,7 +193,7 @@ pub fn waiting_one(
     form: Form,
     search: &Search,
 ) -> Result<Option<Blocked>, NoMemory>
-    requires time { state.now.time ≤ 2 ^ 62 }
+    requires time { state.now.time ≤ LAST_TIME }
     requires accepted { first_that (rows_tests state.now session id (one_of form search.now)) ≡ None }
     ensures { IfOk result (λ o. o ≡ Some (waiting_as state.now session id (one_of form search.now))) }
 {
@@ -209,7 +210,7 @@ pub fn waiting_many(
     id: u64,
     search: &TakeMany,
 ) -> Result<Option<Blocked>, NoMemory>
-    requires time { state.now.time ≤ 2 ^ 62 }
+    requires time { state.now.time ≤ LAST_TIME }
     requires accepted { first_that (rows_tests state.now session id (many_of search.now)) ≡ None }
     ensures { IfOk result (λ o. o ≡ Some (waiting_as state.now session id (many_of search.now))) }
 {
@@ -235,8 +236,8 @@ pub fn refuse_entries(state: &State, write: &WriteAll) -> Option<Refusal>
 
 /// Writes one entry, whole or not at all (JavaSpaces write).
 pub fn accept_entry(alloc: Global, state: &mut State, write: &Write) -> Result<(), NoMemory>
-    requires time { state.old.time ≤ 2 ^ 62 }
-    requires numbers { state.old.next_number ≤ 2 ^ 62 + 1 }
+    requires time { state.old.time ≤ LAST_TIME }
+    requires numbers { state.old.next_number ≤ LAST_NUMBER + 1 }
     requires transactions { IsTrue (are_rising 0 state.old.next_number (map (λ t. t.number) state.old.transactions)) }
     requires accepted { first_that (write_tests state.old (entry_written write.now)) ≡ None }
     ensures ok { OnOk result (state.new ≡ written state.old (entry_written write.now)) }
@@ -248,8 +249,8 @@ pub fn accept_entry(alloc: Global, state: &mut State, write: &Write) -> Result<(
 
 /// Writes several entries, all or none (this profile's own).
 pub fn accept_entries(alloc: Global, state: &mut State, write: &WriteAll) -> Result<(), NoMemory>
-    requires time { state.old.time ≤ 2 ^ 62 }
-    requires numbers { state.old.next_number ≤ 2 ^ 62 + 1 }
+    requires time { state.old.time ≤ LAST_TIME }
+    requires numbers { state.old.next_number ≤ LAST_NUMBER + 1 }
     requires transactions { IsTrue (are_rising 0 state.old.next_number (map (λ t. t.number) state.old.transactions)) }
     requires few { length write.now.entries ≤ 64 }
     requires accepted { first_that (write_tests state.old (entries_written write.now)) ≡ None }
@@ -267,7 +268,7 @@ pub fn answer_entries(
     id: u64,
     write: &WriteAll,
 ) -> Result<Option<Reply>, NoMemory>
-    requires numbers { state.now.next_number ≤ 2 ^ 62 + 1 }
+    requires numbers { state.now.next_number ≤ LAST_NUMBER + 1 }
     requires few { length write.now.entries ≤ 64 }
     ensures { IfOk result (λ r. option_to_list r ≡ says.Batch id (range_with_len state.now.next_number (length write.now.entries)) (granted_ms write.now.lease) ∷ []) }
 {

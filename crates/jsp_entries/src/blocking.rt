@@ -5,8 +5,9 @@ ghost use Rattle.jsp_model.specs.Requests.{as_blocked as waiting_as};
 ghost use Rattle.jsp_model.specs.Changes.{unblock as unblocked};
 ghost use Rattle.jsp_state.specs.Fitting.{AllFit};
 ghost use Rattle.jsp_entries.specs.Asking.{rows_of, end_asked};
+ghost use Rattle.jsp_model.specs.declared.limits.TheConstants.{LAST_TIME};
 
-use jsp_model::{Blocked, Form, State};
+use jsp_model::{Blocked, Form, NEVER, State};
 use jsp_state::{caller_of, named, place_of, templates_of};
 use jsp_types::{NoMemory, Raw};
 use std::alloc::Global;
@@ -23,9 +24,6 @@ pub struct RowsAsked<'a> {
     pub txn: Option<i64>,
 }
 
-/// The last end of a request that waits. It never comes (this profile's own).
-const NEVER: u64 = (1 << 62) + 1;
-
 /// The request as it waits, under the next number.
 pub fn as_blocked(
     alloc: Global,
@@ -34,7 +32,7 @@ pub fn as_blocked(
     id: u64,
     asked: &RowsAsked,
 ) -> Result<Blocked, NoMemory>
-    requires time { state.now.time ≤ 2 ^ 62 }
+    requires time { state.now.time ≤ LAST_TIME }
     requires templates { AllFit state.now.classes asked.now.templates.now }
     ensures { IfOk result (λ b. b ≡ waiting_as state.now session id (rows_of asked.now)) }
 {
@@ -53,7 +51,7 @@ pub fn as_blocked(
 }
 
 fn end_of(state: &State, asked: &RowsAsked) -> u64
-    requires { state.now.time ≤ 2 ^ 62 }
+    requires { state.now.time ≤ LAST_TIME }
     ensures { result ≡ end_asked state.now (rows_of asked.now) }
 {
     (state.time + named(asked.timeout)).min(NEVER)

@@ -14,6 +14,7 @@ ghost use Rattle.jsp_model.specs.Refusals.{rows_tests, is_negative as lies_below
 ghost use Rattle.jsp_state.specs.Fitting.{AllFit};
 ghost use Rattle.jsp_entries.specs.Asking.{rows_of};
 ghost use Rattle.jsp_entries.specs.Searching.{waiting_tests, form_and_caller, reply_with};
+ghost use Rattle.jsp_model.specs.declared.limits.TheConstants.{LAST_TIME};
 
 use crate::blocking::{RowsAsked, as_blocked, blocked_named, unblock};
 use crate::giving::give;
@@ -34,7 +35,7 @@ pub fn refuse_search(
     id: u64,
     asked: &RowsAsked,
 ) -> Result<Option<Refusal>, NoMemory>
-    requires { state.now.time ≤ 2 ^ 62 }
+    requires { state.now.time ≤ LAST_TIME }
     ensures { IfOk result (λ r. r ≡ first_that (rows_tests state.now session id (rows_of asked.now))) }
 {
     if let Some(refusal) = space_refusal(state, asked.space, asked.txn) {
@@ -54,7 +55,7 @@ fn refuse_to_wait(
     id: u64,
     asked: &RowsAsked,
 ) -> Result<Option<Refusal>, NoMemory>
-    requires time { state.now.time ≤ 2 ^ 62 }
+    requires time { state.now.time ≤ LAST_TIME }
     requires templates { AllFit state.now.classes asked.now.templates.now }
     ensures { IfOk result (λ r. r ≡ first_that (waiting_tests state.now session id (rows_of asked.now))) }
 {
@@ -87,7 +88,7 @@ pub(crate) fn would_block(
     id: u64,
     asked: &RowsAsked,
 ) -> Result<bool, NoMemory>
-    requires time { state.now.time ≤ 2 ^ 62 }
+    requires time { state.now.time ≤ LAST_TIME }
     requires templates { AllFit state.now.classes asked.now.templates.now }
     ensures { IfOk result (λ b. b ≡ blocks state.now session id (rows_of asked.now)) }
 {
@@ -108,7 +109,7 @@ pub fn accept_search(
     rows: &[u64],
     asked: &RowsAsked,
 ) -> Result<(), NoMemory>
-    requires time { state.old.time ≤ 2 ^ 62 }
+    requires time { state.old.time ≤ LAST_TIME }
     requires numbers { state.old.next_number < 2 ^ 63 }
     requires rows { IsTrue (are_rising 0 state.old.next_number (map (λ r. r.number) state.old.rows)) }
     requires transactions { IsTrue (are_rising 0 state.old.next_number (map (λ t. t.number) state.old.transactions)) }
@@ -187,7 +188,7 @@ pub fn answer_search(
     rows: &[u64],
     asked: &RowsAsked,
 ) -> Result<Option<Reply>, NoMemory>
-    requires time { state.now.time ≤ 2 ^ 62 }
+    requires time { state.now.time ≤ LAST_TIME }
     requires accepted { first_that (rows_tests state.now session id (rows_of asked.now)) ≡ None }
     ensures { IfOk result (λ r. option_to_list r ≡ rows_answer state.now session id rows.now (rows_of asked.now)) }
 {

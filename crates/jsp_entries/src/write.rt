@@ -14,9 +14,10 @@ ghost use Rattle.jsp_transactions.specs.Writing.{new_rows as written_rows};
 ghost use Rattle.jsp_state.specs.Fitting.{AllAccepted};
 ghost use Rattle.jsp_entries.specs.Asking.{write_of};
 ghost use Rattle.jsp_entries.specs.Writing.{granting_tests, row_numbered, with_new_rows};
+ghost use Rattle.jsp_model.specs.declared.limits.TheConstants.{LAST_NUMBER, LAST_TIME, MOST_ROWS};
 
 use jsp_lease::{granted, ms_of};
-use jsp_model::{Registration, Row, State};
+use jsp_model::{MOST_ROWS, Registration, Row, State};
 use jsp_reply::{Refusal, Reply};
 use jsp_state::{
     caller_of, entries_refusal, entry_of, is_used_up, place_of, rows_in, space_refusal,
@@ -34,9 +35,6 @@ pub struct WriteAsked<'a> {
     pub lease: i64,
     pub txn: Option<i64>,
 }
-
-/// How many rows a space may have, hidden and taken ones too (this profile's own).
-const MOST_ROWS: usize = 65_536;
 
 /// Why a write is refused, or nothing where it isn't (the order is this profile's own).
 pub fn refuse_write(state: &State, asked: &WriteAsked) -> Option<Refusal>
@@ -79,7 +77,7 @@ fn has_bad_lease(asked: &WriteAsked) -> bool
 /// Whether the space has no room for so many rows more.
 fn is_full(state: &State, space: u64, count: usize) -> bool
     requires { count ≤ 64 }
-    ensures { result ≡ nat_lt 65536 (count_in state.now space + count) }
+    ensures { result ≡ nat_lt MOST_ROWS (count_in state.now space + count) }
 {
     MOST_ROWS - count < rows_in(state, space)
 }
@@ -87,8 +85,8 @@ fn is_full(state: &State, space: u64, count: usize) -> bool
 /// Writes the entries, all or none: each is a row of its own, also an equal one (JavaSpaces). The
 /// space joins the writer's transaction, and registrations are owed the rows.
 pub fn accept_write(alloc: Global, state: &mut State, asked: &WriteAsked) -> Result<(), NoMemory>
-    requires time { state.old.time ≤ 2 ^ 62 }
-    requires numbers { state.old.next_number ≤ 2 ^ 62 + 1 }
+    requires time { state.old.time ≤ LAST_TIME }
+    requires numbers { state.old.next_number ≤ LAST_NUMBER + 1 }
     requires transactions { IsTrue (are_rising 0 state.old.next_number (map (λ t. t.number) state.old.transactions)) }
     requires few { length asked.now.entries.now ≤ 64 }
     requires accepted { first_that (write_tests state.old (write_of asked.now)) ≡ None }
@@ -114,8 +112,8 @@ fn new_rows(
     asked: &WriteAsked,
     caller: Option<u64>,
 ) -> Result<Vec<Row>, NoMemory>
-    requires time { state.now.time ≤ 2 ^ 62 }
-    requires numbers { state.now.next_number ≤ 2 ^ 62 + 1 }
+    requires time { state.now.time ≤ LAST_TIME }
+    requires numbers { state.now.next_number ≤ LAST_NUMBER + 1 }
     requires caller { caller ≡ transaction_named asked.now.txn }
     requires few { length asked.now.entries.now ≤ 64 }
     requires accepted { AllAccepted state.now.classes asked.now.entries.now }
@@ -138,7 +136,7 @@ fn new_row(
     number: u64,
     raw: &Raw,
 ) -> Result<Row, NoMemory>
-    requires time { state.now.time ≤ 2 ^ 62 }
+    requires time { state.now.time ≤ LAST_TIME }
     requires caller { caller ≡ transaction_named asked.now.txn }
     requires accepted { entry_fault state.now.classes raw.now ≡ None }
     ensures { IfOk result (λ r. r ≡ row_numbered number state.now (write_of asked.now) raw.now) }
@@ -218,7 +216,7 @@ pub fn answer_write_all(
     count: usize,
     lease: i64,
 ) -> Result<Reply, NoMemory>
-    requires numbers { state.now.next_number ≤ 2 ^ 62 + 1 }
+    requires numbers { state.now.next_number ≤ LAST_NUMBER + 1 }
     requires few { count ≤ 64 }
     ensures { IfOk result (λ r. r ≡ says.Batch id (range_with_len state.now.next_number count) (granted_ms lease)) }
 {

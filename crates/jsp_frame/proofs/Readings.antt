@@ -15,7 +15,7 @@ named_length-frame_of : (payload rest : List ℕ) → length payload < 2 ^ 32
 named_length-frame_of payload rest fits = from_be_bytes-to_be_bytes_4 (length payload) fits
 
 -- a frame and what follows it are determined
-one_frame : (p q x y : List ℕ) → length p < 2 ^ 32 → length q < 2 ^ 32
+pub one_frame : (p q x y : List ℕ) → length p < 2 ^ 32 → length q < 2 ^ 32
     → frame_of p ++ x ≡ frame_of q ++ y → (p ≡ q) × (x ≡ y)
 one_frame p q x y p_fits q_fits same =
     let len : length p ≡ length q =
@@ -26,7 +26,7 @@ one_frame p q x y p_fits q_fits same =
     )
 
 -- bytes with no frame at the front don't begin with one
-no_frame : (limit : ℕ) (payload rest bytes : List ℕ) → limit < 2 ^ 32 → length payload ≤ limit
+pub no_frame : (limit : ℕ) (payload rest bytes : List ℕ) → limit < 2 ^ 32 → length payload ≤ limit
     → bytes ≡ frame_of payload ++ rest → HasNoFrame limit bytes → ⊥
 no_frame limit payload rest bytes fits within is none =
     let named : named_length bytes ≡ length payload =
@@ -127,19 +127,26 @@ HasFrame-BeginsWith limit bytes each has =
           ∙ take-append-drop 4 bytes);
     }
 
+-- what is behind it is bytes too, and fewer
+pub behind_front-bytes : (bytes : List ℕ) → AreBytes bytes → AreBytes (behind_front bytes)
+behind_front-bytes bytes each i =
+    let n = named_length bytes in
+    rw (get_or-drop n (drop 4 bytes) i 0, get_or-drop 4 bytes (n + i) 0) (each (4 + (n + i)))
+
+pub behind_front-less : (limit : ℕ) (bytes : List ℕ) → HasFrame limit bytes → length (behind_front bytes) < length bytes
+behind_front-less limit bytes has = omega (arith, has.whole, length-drop (named_length bytes) (drop 4 bytes), length-drop 4 bytes)
+
 -- frames are taken while there are any
 some_reading : (steps limit : ℕ) (stream : List ℕ) → AreBytes stream → length stream < steps → HasReading limit stream
 some_reading zero limit stream bytes short = absurd (omega arith)
 some_reading (suc steps) limit stream bytes short =
     elim (frame_or_none limit stream) [
       | inl has ↦
-          let n = named_length stream in
           let p = front_payload stream in
           let rest = behind_front stream in
           let one = SplitsInto-frame limit stream [] stream p rest (SplitsInto-nil limit stream) (HasFrame-BeginsWith limit stream bytes has) in
-          let rest_bytes : AreBytes rest = λ i. rw (get_or-drop n (drop 4 stream) i 0, get_or-drop 4 stream (n + i) 0) (bytes (4 + (n + i))) in
-          let less : length rest < steps = omega (arith, has.whole, length-drop n (drop 4 stream), length-drop 4 stream) in
-          let more = some_reading steps limit rest rest_bytes less in
+          let less : length rest < steps = omega (arith, short, behind_front-less limit stream has) in
+          let more = some_reading steps limit rest (behind_front-bytes stream bytes) less in
           let split : SplitsInto limit stream (p ∷ more.0) more.1 = SplitsInto-join limit stream (p ∷ []) more.0 rest more.1 one more.2.split in
           (p ∷ more.0, more.1, record { split = split; ended = more.2.ended })
       | inr none ↦ ([], stream, record { split = SplitsInto-nil limit stream; ended = none })

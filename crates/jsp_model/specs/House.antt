@@ -1,8 +1,7 @@
 -- What the calls of a house promise.
-use Rattle.std.specs.Prelude.{◌≡◌, ℕ, ◌^◌, ◌≤◌, Bool, true, false, not, if◌then◌else◌, ◌&&◌, ◌||◌, ◌==◌, nat_lt, nat_le, List, [], ◌∷◌, ◌++◌, length, map, filter, find, Option, Some, None, Result, Ok, Err, option_map, option_to_list, IsTrue}
+use Rattle.std.specs.Prelude.{◌≡◌, ℕ, ◌≤◌, Bool, true, false, not, if◌then◌else◌, ◌&&◌, ◌||◌, ◌==◌, nat_lt, nat_le, List, [], ◌∷◌, ◌++◌, length, map, filter, find, Option, Some, None, Result, Ok, Err, option_map, option_to_list, IsTrue}
 use Rattle.std.specs.List.{list_all}
 use Rattle.jsp_model.specs.declared.state.State.{State}
-use Rattle.jsp_model.specs.declared.state.Outbox.{Outbox}
 use Rattle.jsp_model.specs.declared.step.Step.{Step}
 use Rattle.jsp_model.specs.declared.step.Step.TheVariants as step
 use Rattle.jsp_model.specs.declared.house.Input.{Input}
@@ -19,6 +18,7 @@ use Rattle.jsp_model.specs.Touches.{touches}
 use Rattle.jsp_model.specs.Steps.{next, is_fault}
 use Rattle.jsp_model.specs.Runs.{IsRun, state_after}
 use Rattle.jsp_model.specs.Settling.{settle_step, first_unquiet, AllQuiet}
+use Rattle.jsp_model.specs.declared.limits.TheConstants.{LAST_SESSION}
 
 -- ---- steps that are asked for
 
@@ -68,7 +68,7 @@ step_of (input.Fault s id refusal) = step.Fault s id refusal
 
 -- an Open that isn't legal, and what comes from a closed session, is passed over
 abbrev pub accepts : State → Input → Bool
-accepts st (input.Open s) = nat_le 1 s && nat_lt st.last_session s && nat_le s (2 ^ 31)
+accepts st (input.Open s) = nat_le 1 s && nat_lt st.last_session s && nat_le s LAST_SESSION
 accepts st (input.Clock t) = true
 accepts st (input.Ask s asked) = is_open st s
 accepts st (input.Fault s id refusal) = is_open st s

@@ -1,5 +1,5 @@
 -- Why a request is refused: the first that applies.
-use Rattle.std.specs.Prelude.{ℕ, ℤ, pos, negsuc, ◌+◌, ◌^◌, ◌-◌, Bool, true, false, not, ◌&&◌, ◌||◌, ◌==◌, nat_lt, nat_le, List, [], ◌∷◌, ◌++◌, length, filter, filter_map, find, Option, Some, is_none}
+use Rattle.std.specs.Prelude.{ℕ, ℤ, pos, negsuc, ◌+◌, Bool, true, false, not, ◌&&◌, ◌||◌, ◌==◌, nat_lt, nat_le, List, [], ◌∷◌, ◌++◌, length, filter, filter_map, find, Option, Some, is_none}
 use Rattle.std.specs.List.{list_any}
 use Rattle.std.specs.Option.{option_map_or}
 use Rattle.jsp_types.specs.Classes.{is_ill_formed, differs, lacks_parent, inherits_badly, are_full}
@@ -19,6 +19,7 @@ use Rattle.jsp_model.specs.declared.state.Vote.TheVariants as vote
 use Rattle.jsp_model.specs.declared.state.Form.TheVariants as form
 use Rattle.jsp_model.specs.Lookup.{rank_of, named, space_named, crash_count, is_living, is_voting, joined_at, is_waiting, waiting_count}
 use Rattle.jsp_model.specs.Requests.{WriteRequest, RowRequest, caller_of, one_entry, all_entries, one_row, many_rows, place_of, would_block, class_asked}
+use Rattle.jsp_model.specs.declared.limits.TheConstants.{LAST_CRASH_COUNT, LAST_NUMBER, MOST_REGISTRATIONS, MOST_ROWS, MOST_SETS, MOST_TRANSACTIONS, MOST_WAITING}
 
 -- ---- tests
 
@@ -28,7 +29,7 @@ is_negative (negsuc n) = true
 
 -- so many numbers more can't be drawn
 abbrev pub is_used_up : State → ℕ → Bool
-is_used_up st count = nat_lt (2 ^ 62 + 1) (st.next_number + count)
+is_used_up st count = nat_lt (LAST_NUMBER + 1) (st.next_number + count)
 
 -- the transaction joined the space under another crash count
 abbrev pub joined_otherwise : State → Option ℕ → Option ℕ → Bool
@@ -74,7 +75,7 @@ abbrev pub write_tests : State → WriteRequest → Tests
 write_tests st w =
     space_tests st w.space w.txn ++ entry_tests st w.entries
     ++ (is_none (granted w.lease), BadLease)
-    ∷ (nat_lt 65536 (rows_in st (place_of st w.space) + length w.entries), SpaceFull)
+    ∷ (nat_lt MOST_ROWS (rows_in st (place_of st w.space) + length w.entries), SpaceFull)
     ∷ (is_used_up st (length w.entries), UsedUp)
     ∷ []
 
@@ -83,7 +84,7 @@ abbrev pub rows_tests : State → ℕ → ℕ → RowRequest → Tests
 rows_tests st s id q =
     space_tests st q.space q.txn ++ template_tests st q.templates
     ++ (is_negative q.timeout, BadTimeout)
-    ∷ (would_block st s id q && nat_le 64 (waiting_count st s), TooManyWaiting)
+    ∷ (would_block st s id q && nat_le MOST_WAITING (waiting_count st s), TooManyWaiting)
     ∷ (would_block st s id q && is_used_up st 1, UsedUp)
     ∷ []
 
@@ -103,20 +104,20 @@ renew_tests st lease ms = lease_tests st lease ++ (is_none (granted ms), BadLeas
 -- of a new transaction
 abbrev pub begin_tests : State → ℤ → Tests
 begin_tests st lease =
-    (is_none (granted lease), BadLease) ∷ (nat_le 1024 (length st.transactions), TooMany) ∷ (is_used_up st 1, UsedUp) ∷ []
+    (is_none (granted lease), BadLease) ∷ (nat_le MOST_TRANSACTIONS (length st.transactions), TooMany) ∷ (is_used_up st 1, UsedUp) ∷ []
 
 -- of an operation on a transaction
 abbrev pub txn_tests : State → ℤ → Tests
 txn_tests st x = (not (is_living st (named x)), UnknownTransaction) ∷ []
 
 abbrev pub commit_tests : State → ℕ → ℤ → Tests
-commit_tests st s x = txn_tests st x ++ (is_voting st (named x), NotActive) ∷ (nat_le 64 (waiting_count st s), TooManyWaiting) ∷ []
+commit_tests st s x = txn_tests st x ++ (is_voting st (named x), NotActive) ∷ (nat_le MOST_WAITING (waiting_count st s), TooManyWaiting) ∷ []
 
 abbrev pub reset_tests : State → List ℕ → Tests
 reset_tests st space =
     (is_none (space_named st space), UnknownSpace)
     ∷ (is_in_doubt st (place_of st space), InDoubt)
-    ∷ (nat_le (2 ^ 32 - 1) (crash_count st (place_of st space)), UsedUp)
+    ∷ (nat_le LAST_CRASH_COUNT (crash_count st (place_of st space)), UsedUp)
     ∷ []
 
 -- of a match set of the session's own
@@ -140,7 +141,7 @@ own_tests st s id (ask.Read q) = rows_tests st s id (one_row form.Read q)
 own_tests st s id (ask.ReadIf q) = rows_tests st s id (one_row form.ReadIf q)
 own_tests st s id (ask.Take q) = rows_tests st s id (one_row form.Take q)
 own_tests st s id (ask.TakeIf q) = rows_tests st s id (one_row form.TakeIf q)
-own_tests st s id (ask.Notify q) = grant_tests st q.space q.template q.lease q.txn (nat_le 4096 (length st.registrations))
+own_tests st s id (ask.Notify q) = grant_tests st q.space q.template q.lease q.txn (nat_le MOST_REGISTRATIONS (length st.registrations))
 own_tests st s id (ask.Renew lease ms) = renew_tests st lease ms
 own_tests st s id (ask.Cancel lease) = lease_tests st lease
 own_tests st s id (ask.RenewAll leases) = []
@@ -155,7 +156,7 @@ own_tests st s id ask.Bye = []
 own_tests st s id (ask.Hello version) = []
 own_tests st s id (ask.WriteAll w) = write_tests st (all_entries w)
 own_tests st s id (ask.TakeMany q) = rows_tests st s id (many_rows q)
-own_tests st s id (ask.Contents q) = grant_tests st q.space q.template q.lease q.txn (nat_le 1024 (length st.sets))
+own_tests st s id (ask.Contents q) = grant_tests st q.space q.template q.lease q.txn (nat_le MOST_SETS (length st.sets))
 own_tests st s id (ask.Next set most) = set_tests st s set
 own_tests st s id (ask.CloseSet set) = set_tests st s set
 

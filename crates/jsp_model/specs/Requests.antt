@@ -1,5 +1,5 @@
 -- What requests ask of a state, and a request for rows as it waits.
-use Rattle.std.specs.Prelude.{ℕ, ℤ, ◌+◌, ◌^◌, Bool, ◌&&◌, nat_lt, min, List, [], ◌∷◌, map, filter_map, Option, Some, None, unwrap_or, option_map}
+use Rattle.std.specs.Prelude.{ℕ, ℤ, ◌+◌, Bool, ◌&&◌, nat_lt, min, List, [], ◌∷◌, map, filter_map, Option, Some, None, unwrap_or, option_map}
 use Rattle.jsp_types.specs.Classes.{sorted}
 use Rattle.jsp_types.specs.Matching.{template_of}
 use Rattle.jsp_types.specs.declared.value.Kind.{Kind}
@@ -18,6 +18,7 @@ use Rattle.jsp_model.specs.declared.state.Form.{Form}
 use Rattle.jsp_model.specs.declared.state.Form.TheVariants as form
 use Rattle.jsp_model.specs.Lookup.{named, space_named}
 use Rattle.jsp_model.specs.Quiet.{must_wait}
+use Rattle.jsp_model.specs.declared.limits.TheConstants.{NEVER}
 
 abbrev pub caller_of : Option ℤ → Option ℕ
 caller_of txn = option_map named txn
@@ -75,7 +76,7 @@ as_blocked st s id q =
       transaction = caller_of q.txn;
       form = q.form;
       most = q.most;
-      end = min (st.time + named q.timeout) (2 ^ 62 + 1);
+      end = min (st.time + named q.timeout) NEVER;
     }
 
 -- it would wait

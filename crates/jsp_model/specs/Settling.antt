@@ -1,6 +1,6 @@
 -- What a settle turn does: one step for the transaction whose commit was asked first; where none votes, it makes the
 -- first space that isn't quiet quiet.
-use Rattle.std.specs.Prelude.{ℕ, Bool, true, false, not, if◌then◌else◌, ◌==◌, List, [], ◌∷◌, length, find, Option, Some, None, is_none, option_map, IsTrue}
+use Rattle.std.specs.Prelude.{ℕ, true, false, not, if◌then◌else◌, List, [], ◌∷◌, length, find, Option, Some, None, is_none, option_map, IsTrue}
 use Rattle.std.specs.List.{list_any, list_all, range_with_len}
 use Rattle.std.specs.Option.{option_map_or}
 use Rattle.jsp_model.specs.declared.state.State.{State}

@@ -1,5 +1,5 @@
 -- Which steps are legal, and the state after one.
-use Rattle.std.specs.Prelude.{ℕ, ◌^◌, Bool, true, false, not, if◌then◌else◌, ◌&&◌, ◌==◌, nat_lt, nat_le, min, max, List, [], ◌∷◌, length, fold, Option, Some, None, is_some, is_none}
+use Rattle.std.specs.Prelude.{ℕ, Bool, true, false, not, if◌then◌else◌, ◌&&◌, ◌==◌, nat_lt, nat_le, min, max, List, [], ◌∷◌, length, fold, Option, Some, None, is_some, is_none}
 use Rattle.std.specs.List.{list_any, list_all}
 use Rattle.std.specs.Option.{option_map_or}
 use Rattle.jsp_wire.specs.declared.ask.Ask.{Ask}
@@ -24,6 +24,7 @@ use Rattle.jsp_model.specs.Requests.{RowRequest, rows_asked, as_blocked}
 use Rattle.jsp_model.specs.Changes.{open_session, close, give, unblock, tell, remove, cast_vote, commit, abort, accepted}
 use Rattle.jsp_model.specs.Answers.{said}
 use Rattle.jsp_model.specs.Outboxes.{post, hand_out, outbox_of}
+use Rattle.jsp_model.specs.declared.limits.TheConstants.{LAST_SESSION, LAST_TIME}
 
 -- ---- choices
 
@@ -62,7 +63,7 @@ is_fault TooLong = true
 is_fault _ = false
 
 unfoldable pub is_legal : State → Step → Bool
-is_legal st (step.Open s) = nat_le 1 s && nat_lt st.last_session s && nat_le s (2 ^ 31)
+is_legal st (step.Open s) = nat_le 1 s && nat_lt st.last_session s && nat_le s LAST_SESSION
 is_legal st (step.Shut s) = is_open st s
 is_legal st (step.Clock t) = true
 is_legal st (step.Ask s asked ns) =
@@ -104,7 +105,7 @@ after_hand_out _ boxes = boxes
 abbrev pub change : State → Step → State
 change st (step.Open s) = open_session st s
 change st (step.Shut s) = close st s
-change st (step.Clock t) = record st { time = max st.time (min t (2 ^ 62)) }
+change st (step.Clock t) = record st { time = max st.time (min t LAST_TIME) }
 change st (step.Ask s a ns) = after_ask st s a.id ns a.ask (refusal st s a.id a.ask)
 change st (step.Fault s id r) = if is_too_long r then close st s else st
 change st (step.Grant n ns) = after_grant st n ns (blocked_of st n)

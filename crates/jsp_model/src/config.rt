@@ -5,6 +5,7 @@ ghost use Rattle.std.specs.Char.{is_ascii_alphanumeric};
 ghost use Rattle.jsp_types.specs.Classes.{is_name};
 ghost use Rattle.jsp_model.specs.Config.{are_space_names, are_different};
 
+use crate::limits::MOST_SPACES;
 use jsp_types::{Items, Text};
 use std::marker::Model;
 
@@ -51,7 +52,7 @@ impl Config {
 fn are_names(names: &[Text]) -> bool
     ensures { result ≡ are_space_names names.now }
 {
-    is_between(names.len(), 64) && all_names(names) && are_distinct(names)
+    is_between(names.len(), MOST_SPACES) && all_names(names) && are_distinct(names)
 }
 
 fn is_between(len: usize, most: usize) -> bool

@@ -12,6 +12,7 @@
 mod config;
 mod house;
 mod image;
+mod limits;
 mod state;
 mod step;
 
@@ -19,6 +20,10 @@ pub use config::Config;
 pub use house::{House, Input, Settled, Stopped, Why};
 pub use image::Image;
 pub use jsp_lease::{Item, Rank};
+pub use limits::{
+    LAST_CRASH_COUNT, LAST_NUMBER, LAST_SESSION, LAST_TIME, MOST_REGISTRATIONS, MOST_ROWS,
+    MOST_SETS, MOST_SPACES, MOST_TRANSACTIONS, MOST_WAITING, NEVER,
+};
 pub use state::{
     Blocked, Commit, Form, Joined, MatchSet, Outbox, Registration, Row, Session, Space, State,
     Transaction, Vote,

@@ -1,5 +1,5 @@
 -- The rows that a page shows: the first of those that the set may still show.
-use Rattle.std.proofs.Common.{◌≡◌, ℕ, zero, suc, ◌+◌, ◌<◌, ◌≤◌, Bool, true, false, List, [], ◌∷◌, ◌++◌, length, map, take, drop, get_or, Option, Some, None, refl, ap, sym, ◌∙◌, arith, length-append}
+use Rattle.std.proofs.Common.{◌≡◌, ℕ, ◌+◌, ◌<◌, ◌≤◌, Bool, true, false, List, [], ◌∷◌, ◌++◌, length, map, take, drop, get_or, Option, Some, None, refl, ap, sym, ◌∙◌, arith, length-append}
 use Rattle.std.specs.Prelude.{filter}
 use Rattle.std.specs.List.{last_or}
 use Rattle.std.proofs.lemmas.List.{take_more, take_all, take-append-le, take-append-drop, map-append, length-map, append-nil}

@@ -1,5 +1,5 @@
 -- Registrations that are made and told.
-use Rattle.std.specs.Prelude.{ℕ, ◌+◌, List, [], ◌∷◌, ◌++◌, drop}
+use Rattle.std.specs.Prelude.{ℕ, ◌+◌, [], ◌∷◌, ◌++◌, drop}
 use Rattle.jsp_types.specs.Matching.{template_of}
 use Rattle.jsp_lease.specs.Granted.{ms_of}
 use Rattle.jsp_wire.specs.declared.ask.Notify.{Notify}

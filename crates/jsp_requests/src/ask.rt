@@ -12,6 +12,7 @@ ghost use Rattle.jsp_model.specs.Changes.{accepted, begin as begun};
 ghost use Rattle.jsp_model.specs.Answers.{answer as answer_of, told_others as others_told, answer_commit as commit_answered, refuse_under as refused_under, aborted_reply};
 ghost use Rattle.jsp_model.specs.Steps.{has_its_rows};
 ghost use Rattle.jsp_requests.specs.Greeting.{greets};
+ghost use Rattle.jsp_model.specs.declared.limits.TheConstants.{LAST_CRASH_COUNT, LAST_NUMBER, LAST_TIME};
 
 use crate::batch::{accept_cancel_all, accept_renew_all, cancel_answers, renew_answers};
 use crate::lease::{accept_cancel, accept_renew, answer_renew, refuse_cancel, refuse_renew};
@@ -45,7 +46,7 @@ pub fn refusal(
     id: u64,
     ask: &Ask,
 ) -> Result<Option<Refusal>, NoMemory>
-    requires time { state.now.time ≤ 2 ^ 62 }
+    requires time { state.now.time ≤ LAST_TIME }
     requires fits { IsTrue (has_fitting_parts ask.now) }
     ensures { IfOk result (λ r. r ≡ refusal_of state.now session id ask.now) }
 {
@@ -72,7 +73,7 @@ fn own_refusal(
     id: u64,
     ask: &Ask,
 ) -> Result<Option<Refusal>, NoMemory>
-    requires time { state.now.time ≤ 2 ^ 62 }
+    requires time { state.now.time ≤ LAST_TIME }
     requires fits { IsTrue (has_fitting_parts ask.now) }
     ensures { IfOk result (λ r. r ≡ first_that (own_tests state.now session id ask.now)) }
 {
@@ -113,12 +114,12 @@ pub fn accept(
     ask: &Ask,
     rows: &[u64],
 ) -> Result<(), NoMemory>
-    requires time { state.old.time ≤ 2 ^ 62 }
-    requires numbers { state.old.next_number ≤ 2 ^ 62 + 1 }
+    requires time { state.old.time ≤ LAST_TIME }
+    requires numbers { state.old.next_number ≤ LAST_NUMBER + 1 }
     requires rows { IsTrue (are_rising 0 state.old.next_number (map (λ r. r.number) state.old.rows)) }
     requires transactions { IsTrue (are_rising 0 state.old.next_number (map (λ t. t.number) state.old.transactions)) }
     requires sets { IsTrue (are_rising 0 state.old.next_number (map (λ m. m.number) state.old.sets)) }
-    requires crashes { IsTrue (list_all (λ p. nat_le p.crash_count (2 ^ 32 - 1)) state.old.spaces) }
+    requires crashes { IsTrue (list_all (λ p. nat_le p.crash_count LAST_CRASH_COUNT) state.old.spaces) }
     requires fits { IsTrue (has_fitting_parts ask.now) }
     requires accepted { refusal_of state.old session id ask.now ≡ None }
     requires given { has_its_rows state.old session id rows.now None (rows_asked ask.now) ≡ true }
@@ -136,12 +137,12 @@ fn make(
     ask: &Ask,
     rows: &[u64],
 ) -> Result<(), NoMemory>
-    requires time { state.old.time ≤ 2 ^ 62 }
-    requires numbers { state.old.next_number ≤ 2 ^ 62 + 1 }
+    requires time { state.old.time ≤ LAST_TIME }
+    requires numbers { state.old.next_number ≤ LAST_NUMBER + 1 }
     requires rows { IsTrue (are_rising 0 state.old.next_number (map (λ r. r.number) state.old.rows)) }
     requires transactions { IsTrue (are_rising 0 state.old.next_number (map (λ t. t.number) state.old.transactions)) }
     requires sets { IsTrue (are_rising 0 state.old.next_number (map (λ m. m.number) state.old.sets)) }
-    requires crashes { IsTrue (list_all (λ p. nat_le p.crash_count (2 ^ 32 - 1)) state.old.spaces) }
+    requires crashes { IsTrue (list_all (λ p. nat_le p.crash_count LAST_CRASH_COUNT) state.old.spaces) }
     requires fits { IsTrue (has_fitting_parts ask.now) }
     requires accepted { first_that (own_tests state.old session id ask.now) ≡ None }
     requires given { has_its_rows state.old session id rows.now None (rows_asked ask.now) ≡ true }
@@ -207,8 +208,8 @@ fn make(
 }
 
 fn accept_txn(alloc: Global, state: &mut State, lease: &i64) -> Result<(), NoMemory>
-    requires time { state.old.time ≤ 2 ^ 62 }
-    requires numbers { state.old.next_number ≤ 2 ^ 62 + 1 }
+    requires time { state.old.time ≤ LAST_TIME }
+    requires numbers { state.old.next_number ≤ LAST_NUMBER + 1 }
     ensures ok { OnOk result (state.new ≡ begun state.old lease.now) }
     ensures err { OnErr result (state.new ≡ state.old) }
 {
@@ -225,8 +226,8 @@ pub fn answer(
     ask: &Ask,
     rows: &[u64],
 ) -> Result<Option<Reply>, NoMemory>
-    requires time { state.now.time ≤ 2 ^ 62 }
-    requires numbers { state.now.next_number ≤ 2 ^ 62 + 1 }
+    requires time { state.now.time ≤ LAST_TIME }
+    requires numbers { state.now.next_number ≤ LAST_NUMBER + 1 }
     requires bearers { (n : ℕ) → bearers state.now n ≤ 1 }
     requires fits { IsTrue (has_fitting_parts ask.now) }
     requires accepted { refusal_of state.now session id ask.now ≡ None }
@@ -243,8 +244,8 @@ fn own_answer(
     ask: &Ask,
     rows: &[u64],
 ) -> Result<Option<Reply>, NoMemory>
-    requires time { state.now.time ≤ 2 ^ 62 }
-    requires numbers { state.now.next_number ≤ 2 ^ 62 + 1 }
+    requires time { state.now.time ≤ LAST_TIME }
+    requires numbers { state.now.next_number ≤ LAST_NUMBER + 1 }
     requires bearers { (n : ℕ) → bearers state.now n ≤ 1 }
     requires fits { IsTrue (has_fitting_parts ask.now) }
     requires accepted { first_that (own_tests state.now session id ask.now) ≡ None }
@@ -345,7 +346,7 @@ pub fn request_for_rows(
     id: u64,
     ask: &Ask,
 ) -> Result<Option<Blocked>, NoMemory>
-    requires time { state.now.time ≤ 2 ^ 62 }
+    requires time { state.now.time ≤ LAST_TIME }
     requires accepted { refusal_of state.now session id ask.now ≡ None }
     ensures { IfOk result (λ o. o ≡ option_map (waiting_as state.now session id) (rows_asked ask.now)) }
 {
@@ -359,7 +360,7 @@ fn waiting_request(
     id: u64,
     ask: &Ask,
 ) -> Result<Option<Blocked>, NoMemory>
-    requires time { state.now.time ≤ 2 ^ 62 }
+    requires time { state.now.time ≤ LAST_TIME }
     requires accepted { first_that (own_tests state.now session id ask.now) ≡ None }
     ensures { IfOk result (λ o. o ≡ option_map (waiting_as state.now session id) (rows_asked ask.now)) }
 {

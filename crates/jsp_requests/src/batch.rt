@@ -7,6 +7,7 @@ ghost use Rattle.jsp_model.specs.Changes.{renew_one as one_renewed, cancel_one a
 ghost use Rattle.jsp_model.specs.Answers.{renew_answer, cancel_answer};
 ghost use Rattle.jsp_model.specs.Limits.{bearers};
 ghost use Rattle.jsp_model.proofs.Cancelling.{is_cancellable as cancels, is_ended as ended, still_names as names_still, cancel_outcome as outcome_of};
+ghost use Rattle.jsp_model.specs.declared.limits.TheConstants.{LAST_TIME};
 
 use crate::lease::{accept_cancel, accept_renew, refuse_cancel, refuse_renew};
 use jsp_lease::ms_of;
@@ -18,7 +19,7 @@ use std::alloc::Global;
 
 /// Renews leases in their order.
 pub(crate) fn accept_renew_all(state: &mut State, leases: &[(i64, i64)])
-    requires { state.old.time ≤ 2 ^ 62 }
+    requires { state.old.time ≤ LAST_TIME }
     ensures { state.new ≡ fold one_renewed state.old leases.now }
 {
     'leases: for lease in leases {
@@ -27,7 +28,7 @@ pub(crate) fn accept_renew_all(state: &mut State, leases: &[(i64, i64)])
 }
 
 fn renew_one(state: &mut State, lease: &(i64, i64))
-    requires { state.old.time ≤ 2 ^ 62 }
+    requires { state.old.time ≤ LAST_TIME }
     ensures made { state.new ≡ one_renewed state.old lease.now }
     ensures time { state.new.time ≡ state.old.time }
 {

@@ -6,6 +6,7 @@ ghost use Rattle.jsp_reply.specs.declared.reply.Reply.TheVariants as says;
 ghost use Rattle.jsp_model.specs.Lookup.{named as number_named};
 ghost use Rattle.jsp_model.specs.Refusals.{lease_tests, renew_tests};
 ghost use Rattle.jsp_model.specs.Changes.{renew as renewed, cancel as cancelled};
+ghost use Rattle.jsp_model.specs.declared.limits.TheConstants.{LAST_TIME};
 
 use crate::extend::extend;
 use jsp_lease::{granted, ms_of};
@@ -56,7 +57,7 @@ pub(crate) fn grants_nothing(ms: &i64) -> bool
 /// Renews a lease: it ends when the time that is granted has passed from now on, whatever was left of
 /// it.
 pub(crate) fn accept_renew(state: &mut State, lease: &i64, ms: &i64)
-    requires { state.old.time ≤ 2 ^ 62 }
+    requires { state.old.time ≤ LAST_TIME }
     ensures made { state.new ≡ renewed state.old lease.now ms.now }
     ensures time { state.new.time ≡ state.old.time }
 {

@@ -10,19 +10,17 @@ ghost use Rattle.jsp_model.specs.Limits.{are_rising};
 ghost use Rattle.jsp_model.specs.Refusals.{own_tests, set_tests, own_set as own};
 ghost use Rattle.jsp_model.specs.Changes.{open_set, rest_of_set, page_of as page, is_last_page as is_last, turn_page as turned, close_set as closed};
 ghost use Rattle.jsp_requests.specs.Paging.{opened, with_set, shows, shown_among, to_cursor, with_cursor};
+ghost use Rattle.jsp_model.specs.declared.limits.TheConstants.{LAST_NUMBER, LAST_TIME, MOST_SETS};
 
 use crate::granting::{LeaseAsked, refuse_grant};
 use jsp_lease::ms_of;
-use jsp_model::{MatchSet, Rank, Row, State};
+use jsp_model::{MOST_SETS, MatchSet, Rank, Row, State};
 use jsp_reply::{Refusal, Reply};
 use jsp_state::{caller_of, is_readable, named, place_of, template_of};
 use jsp_transactions::{join, leave, remove};
 use jsp_types::{Classes, Entry, Items, NoMemory, matches};
 use jsp_wire::Contents;
 use std::alloc::Global;
-
-/// How many match sets there may be in the whole house (this profile's own).
-const MOST_SETS: usize = 1_024;
 
 /// Why a match set isn't opened, or nothing where it is.
 pub(crate) fn refuse_contents(
@@ -43,7 +41,7 @@ pub(crate) fn refuse_contents(
 }
 
 fn is_full(state: &State) -> bool
-    ensures { result ≡ nat_le 1024 (length state.now.sets) }
+    ensures { result ≡ nat_le MOST_SETS (length state.now.sets) }
 {
     MOST_SETS <= state.sets.as_slice().len()
 }
@@ -56,8 +54,8 @@ pub(crate) fn accept_contents(
     id: u64,
     contents: &Contents,
 ) -> Result<(), NoMemory>
-    requires time { state.old.time ≤ 2 ^ 62 }
-    requires numbers { state.old.next_number ≤ 2 ^ 62 + 1 }
+    requires time { state.old.time ≤ LAST_TIME }
+    requires numbers { state.old.next_number ≤ LAST_NUMBER + 1 }
     requires transactions { IsTrue (are_rising 0 state.old.next_number (map (λ t. t.number) state.old.transactions)) }
     requires accepted { first_that (own_tests state.old session id (ask.Contents contents.now)) ≡ None }
     ensures ok { OnOk result (state.new ≡ open_set state.old session contents.now) }
@@ -81,7 +79,7 @@ fn new_set(
     id: u64,
     contents: &Contents,
 ) -> Result<MatchSet, NoMemory>
-    requires time { state.now.time ≤ 2 ^ 62 }
+    requires time { state.now.time ≤ LAST_TIME }
     requires accepted { first_that (own_tests state.now session id (ask.Contents contents.now)) ≡ None }
     ensures { IfOk result (λ m. m ≡ opened state.now session contents.now) }
 {
@@ -98,7 +96,7 @@ fn new_set(
 }
 
 fn add(state: &mut State, set: MatchSet) -> Result<(), NoMemory>
-    requires { state.old.next_number ≤ 2 ^ 62 + 1 }
+    requires { state.old.next_number ≤ LAST_NUMBER + 1 }
     ensures ok { OnOk result (state.new ≡ with_set state.old set) }
     ensures err { OnErr result (state.new ≡ state.old) }
 {

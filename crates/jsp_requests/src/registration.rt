@@ -8,19 +8,17 @@ ghost use Rattle.jsp_model.specs.Limits.{are_rising};
 ghost use Rattle.jsp_model.specs.Refusals.{own_tests};
 ghost use Rattle.jsp_model.specs.Changes.{register, tell as told};
 ghost use Rattle.jsp_requests.specs.Registering.{registered, with_registration, told_once};
+ghost use Rattle.jsp_model.specs.declared.limits.TheConstants.{LAST_NUMBER, LAST_TIME, MOST_REGISTRATIONS};
 
 use crate::granting::{LeaseAsked, refuse_grant};
 use jsp_lease::ms_of;
-use jsp_model::{Registration, State};
+use jsp_model::{MOST_REGISTRATIONS, Registration, State};
 use jsp_reply::Refusal;
 use jsp_state::{caller_of, place_of, template_of};
 use jsp_transactions::{join, leave};
 use jsp_types::{Items, NoMemory};
 use jsp_wire::Notify;
 use std::alloc::Global;
-
-/// How many registrations there may be in the whole house (this profile's own).
-const MOST_REGISTRATIONS: usize = 4_096;
 
 /// Why a registration is refused, or nothing where it isn't.
 pub(crate) fn refuse_notify(
@@ -41,7 +39,7 @@ pub(crate) fn refuse_notify(
 }
 
 fn is_full(state: &State) -> bool
-    ensures { result ≡ nat_le 4096 (length state.now.registrations) }
+    ensures { result ≡ nat_le MOST_REGISTRATIONS (length state.now.registrations) }
 {
     MOST_REGISTRATIONS <= state.registrations.as_slice().len()
 }
@@ -54,8 +52,8 @@ pub(crate) fn accept_notify(
     id: u64,
     notify: &Notify,
 ) -> Result<(), NoMemory>
-    requires time { state.old.time ≤ 2 ^ 62 }
-    requires numbers { state.old.next_number ≤ 2 ^ 62 + 1 }
+    requires time { state.old.time ≤ LAST_TIME }
+    requires numbers { state.old.next_number ≤ LAST_NUMBER + 1 }
     requires transactions { IsTrue (are_rising 0 state.old.next_number (map (λ t. t.number) state.old.transactions)) }
     requires accepted { first_that (own_tests state.old session id (ask.Notify notify.now)) ≡ None }
     ensures ok { OnOk result (state.new ≡ register state.old session notify.now) }
@@ -79,7 +77,7 @@ fn new_registration(
     id: u64,
     notify: &Notify,
 ) -> Result<Registration, NoMemory>
-    requires time { state.now.time ≤ 2 ^ 62 }
+    requires time { state.now.time ≤ LAST_TIME }
     requires accepted { first_that (own_tests state.now session id (ask.Notify notify.now)) ≡ None }
     ensures { IfOk result (λ r. r ≡ registered state.now session notify.now) }
 {
@@ -99,7 +97,7 @@ fn new_registration(
 }
 
 fn add(state: &mut State, registration: Registration) -> Result<(), NoMemory>
-    requires { state.old.next_number ≤ 2 ^ 62 + 1 }
+    requires { state.old.next_number ≤ LAST_NUMBER + 1 }
     ensures ok { OnOk result (state.new ≡ with_registration state.old registration) }
     ensures err { OnErr result (state.new ≡ state.old) }
 {

@@ -5,6 +5,7 @@ ghost use Rattle.jsp_wire.specs.Limits.{has_fitting_parts};
 ghost use Rattle.jsp_model.specs.Limits.{are_rising, bearers};
 ghost use Rattle.jsp_model.specs.Requests.{rows_asked};
 ghost use Rattle.jsp_model.specs.Steps.{has_its_rows};
+ghost use Rattle.jsp_model.specs.declared.limits.TheConstants.{LAST_CRASH_COUNT, LAST_NUMBER, LAST_TIME};
 
 use crate::{accept, answer, answer_commit, refusal, refuse_under, request_for_rows, told_others};
 use jsp_model::{Blocked, Commit, Form, Space, State};
@@ -81,12 +82,12 @@ fn what_waits_under_a_transaction_is_told(rt: HostRuntime) -> Result<(), Fail> {
 
 // Session 1 asks this: what it is answered.
 fn asks(alloc: Global, state: &mut State, ask: &Ask) -> Result<Option<Reply>, NoMemory>
-    requires time { state.old.time ≤ 2 ^ 62 }
-    requires numbers { state.old.next_number ≤ 2 ^ 62 + 1 }
+    requires time { state.old.time ≤ LAST_TIME }
+    requires numbers { state.old.next_number ≤ LAST_NUMBER + 1 }
     requires rows { IsTrue (are_rising 0 state.old.next_number (map (λ r. r.number) state.old.rows)) }
     requires transactions { IsTrue (are_rising 0 state.old.next_number (map (λ t. t.number) state.old.transactions)) }
     requires sets { IsTrue (are_rising 0 state.old.next_number (map (λ m. m.number) state.old.sets)) }
-    requires crashes { IsTrue (list_all (λ p. nat_le p.crash_count (2 ^ 32 - 1)) state.old.spaces) }
+    requires crashes { IsTrue (list_all (λ p. nat_le p.crash_count LAST_CRASH_COUNT) state.old.spaces) }
     requires bearers { (n : ℕ) → bearers state.old n ≤ 1 }
     requires fits { IsTrue (has_fitting_parts ask.now) }
     requires given { has_its_rows state.old 1 2 [] None (rows_asked ask.now) ≡ true }
@@ -128,7 +129,7 @@ fn search(alloc: Global) -> Result<Search, NoMemory> {
 
 // The end of what session 1 asks for, as it would wait.
 fn end_asked(alloc: Global, state: &State, ask: &Ask) -> Result<Option<u64>, NoMemory>
-    requires time { state.now.time ≤ 2 ^ 62 }
+    requires time { state.now.time ≤ LAST_TIME }
     requires fits { IsTrue (has_fitting_parts ask.now) }
 {
     if let Some(_) = refusal(alloc, state, 1, 2, ask)? {

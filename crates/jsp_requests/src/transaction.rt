@@ -5,20 +5,15 @@ ghost use Rattle.std.specs.List.{list_any};
 ghost use Rattle.jsp_types.specs.Tests.{first_that};
 ghost use Rattle.jsp_reply.specs.declared.reply.TxnState.TheVariants.{Active as active, Voting as voting};
 ghost use Rattle.jsp_model.specs.Lookup.{named as number_named, is_voting as votes};
+ghost use Rattle.jsp_model.specs.declared.limits.TheConstants.{MOST_TRANSACTIONS};
 ghost use Rattle.jsp_model.specs.Refusals.{begin_tests, txn_tests, commit_tests, reset_tests, is_in_doubt as in_doubt, is_prepared as prepared};
 
 use crate::lease::grants_nothing;
-use jsp_model::{Joined, State, Transaction, Vote};
+use jsp_model::{Joined, LAST_CRASH_COUNT, MOST_TRANSACTIONS, State, Transaction, Vote};
 use jsp_reply::{Refusal, TxnState};
 use jsp_state::{
     crash_count, is_living, is_used_up, is_voting, named, place_of, space_named, waits_for_many,
 };
-
-/// How many transactions there may be in the whole house (this profile's own).
-const MOST_TRANSACTIONS: usize = 1_024;
-
-/// The last crash count (this profile's own).
-const LAST_CRASH_COUNT: u64 = (1 << 32) - 1;
 
 /// Why a transaction isn't begun, or nothing where it is.
 pub(crate) fn refuse_begin(state: &State, lease: &i64) -> Option<Refusal>
@@ -37,7 +32,7 @@ pub(crate) fn refuse_begin(state: &State, lease: &i64) -> Option<Refusal>
 }
 
 fn is_full(state: &State) -> bool
-    ensures { result ≡ nat_le 1024 (length state.now.transactions) }
+    ensures { result ≡ nat_le MOST_TRANSACTIONS (length state.now.transactions) }
 {
     MOST_TRANSACTIONS <= state.transactions.as_slice().len()
 }

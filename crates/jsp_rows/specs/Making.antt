@@ -13,6 +13,7 @@ use Rattle.jsp_model.specs.Requests.{rows_asked}
 use Rattle.jsp_model.specs.Touches.{touches}
 use Rattle.jsp_model.specs.House.{Makes, Leaves, KeepsRoom, IsWithin, own_of, bare, is_unasked, touched, was_done}
 use Rattle.jsp_rows.specs.Owing.{Covers}
+use Rattle.jsp_model.specs.declared.limits.TheConstants.{LAST_SESSION}
 
 -- ---- the log
 
@@ -25,7 +26,7 @@ pub record KeepsLog (old new : State) (bound : Option ℕ) (before after spare l
 
 -- Only what is due, spaces that aren't quiet, and its rows stand between the step and being legal.
 abbrev pub may_come : State → Step → Bool
-may_come st (step.Open s) = nat_le 1 s && nat_lt st.last_session s && nat_le s (2 ^ 31)
+may_come st (step.Open s) = nat_le 1 s && nat_lt st.last_session s && nat_le s LAST_SESSION
 may_come st (step.Clock t) = true
 may_come st (step.Ask s asked ns) = is_open st s
 may_come st (step.Fault s id r) = is_open st s && is_fault r

@@ -3,17 +3,15 @@ ghost use Rattle.std.specs.Prelude.{◌≡◌, ◌-◌, ◌^◌, ◌&&◌, nat_l
 ghost use Rattle.jsp_model.specs.declared.house.Input.TheVariants as input;
 ghost use Rattle.jsp_model.specs.House.{Acts, MayStop, OpensNone, is_input, accepts as takes, acted, step_of as own_step};
 ghost use Rattle.jsp_rows.specs.Making.{KeepsLog};
+ghost use Rattle.jsp_model.specs.declared.limits.TheConstants.{LAST_SESSION};
 
 use crate::finishing::finish;
 use crate::making::make;
 use crate::performing::{clear, perform};
 use jsp_audit::is_open;
-use jsp_model::{Image, Input, Step, Stopped};
+use jsp_model::{Image, Input, LAST_SESSION, Step, Stopped};
 use jsp_types::Items;
 use std::alloc::Global;
-
-/// The greatest number of a session.
-const LAST_SESSION: u64 = 1 << 31;
 
 /// Finishes what an earlier call left, makes the input's own step, and then what follows from it.
 pub(crate) fn act(
@@ -54,7 +52,7 @@ fn accepts(image: &Image, input: &Input) -> bool
 }
 
 fn may_open(last: u64, session: u64) -> bool
-    ensures { result ≡ (nat_le 1 session && nat_lt last session && nat_le session (2 ^ 31)) }
+    ensures { result ≡ (nat_le 1 session && nat_lt last session && nat_le session LAST_SESSION) }
 {
     1 <= session && last < session && session <= LAST_SESSION
 }

@@ -5,6 +5,7 @@ ghost use Rattle.jsp_model.specs.Limits.{are_rising};
 ghost use Rattle.jsp_model.specs.Refusals.{refusal as refusal_of};
 ghost use Rattle.jsp_model.specs.Requests.{rows_asked};
 ghost use Rattle.jsp_model.specs.Steps.{has_its_rows};
+ghost use Rattle.jsp_model.specs.declared.limits.TheConstants.{LAST_TIME};
 
 use jsp_audit::{choose, refusal, request_for_rows};
 use jsp_model::State;
@@ -21,7 +22,7 @@ pub(crate) fn choose_rows(
     id: u64,
     ask: &Ask,
 ) -> Result<Items<u64>, NoMemory>
-    requires time { state.now.time ≤ 2 ^ 62 }
+    requires time { state.now.time ≤ LAST_TIME }
     requires rising { IsTrue (are_rising 0 state.now.next_number (map (λ r. r.number) state.now.rows)) }
     requires fits { IsTrue (has_fitting_parts ask.now) }
     ensures { IfOk result (λ ns. has_its_rows state.now session id ns (refusal_of state.now session id ask.now) (rows_asked ask.now) ≡ true) }
@@ -39,7 +40,7 @@ fn choose_first(
     id: u64,
     ask: &Ask,
 ) -> Result<Items<u64>, NoMemory>
-    requires time { state.now.time ≤ 2 ^ 62 }
+    requires time { state.now.time ≤ LAST_TIME }
     requires rising { IsTrue (are_rising 0 state.now.next_number (map (λ r. r.number) state.now.rows)) }
     requires accepted { refusal_of state.now session id ask.now ≡ None }
     ensures { IfOk result (λ ns. has_its_rows state.now session id ns None (rows_asked ask.now) ≡ true) }

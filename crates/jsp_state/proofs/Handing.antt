@@ -1,16 +1,15 @@
 -- Handing answers out at the place of their session's outbox.
-use Rattle.std.proofs.Common.{◌≡◌, ℕ, zero, suc, ◌+◌, ◌-◌, ◌<◌, ◌≤◌, Bool, true, false, nat_lt, nat_le, leb, ltb, eqb, List, [], ◌∷◌, ◌++◌, length, take, drop, get_or, Option, Some, None, Result, Ok, Err, refl, ap, sym, ◌∙◌, subst, arith, length-drop}
-use Rattle.std.specs.Prelude.{map, filter, not, ◌&&◌, ◌==◌, cond, position, slice_get, slice_set, remove, find, if◌then◌else◌, IfOk, OnErr}
+use Rattle.std.proofs.Common.{◌≡◌, ℕ, zero, suc, ◌<◌, Bool, true, false, nat_lt, nat_le, eqb, List, [], ◌∷◌, length, take, drop, Option, Some, None, refl, ap, sym, ◌∙◌, subst, arith, length-drop}
+use Rattle.std.specs.Prelude.{◌&&◌, ◌==◌, cond, position, slice_get, slice_set, remove, find}
 use Rattle.std.specs.List.{list_all, list_any, position_or_len}
 use Rattle.std.specs.Option.{option_map_or}
-use Rattle.std.proofs.lemmas.Bool.{and_parts, eqb-true, ne_eqb, eq-eqb, lt-ltb, ltb-true, leb-true, le-leb, lt-leb}
+use Rattle.std.proofs.lemmas.Bool.{and_parts, eqb-true, ne_eqb, ltb-true}
 use Rattle.std.proofs.lemmas.Bool.Decides.{nat_tests}
 use Rattle.std.proofs.lemmas.List.Folds.{find_at}
 use Rattle.std.proofs.lemmas.List.Quantifiers.{position-Some}
 use Rattle.jsp_reply.specs.declared.reply.Reply.{Reply}
 use Rattle.jsp_model.specs.declared.state.State.{State}
 use Rattle.jsp_model.specs.declared.state.Outbox.{Outbox}
-use Rattle.jsp_model.specs.Lookup.{update}
 use Rattle.jsp_model.specs.Outboxes.{hand_out, outbox_of}
 use Rattle.jsp_model.specs.Limits.{are_outboxes}
 use Rattle.jsp_state.specs.Outboxes.{answers_in, answers_at, later_answers, without_first_of, without_first, after_handing}

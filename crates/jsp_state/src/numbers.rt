@@ -4,10 +4,7 @@ ghost use Rattle.jsp_model.specs.Lookup.{contains as has, is_caller as calls, na
 ghost use Rattle.jsp_model.specs.Requests.{caller_of as transaction_named};
 ghost use Rattle.jsp_model.specs.Refusals.{is_used_up as lacks_numbers};
 
-use jsp_model::State;
-
-/// The last number that is drawn (this profile's own).
-const LAST_NUMBER: u64 = 1 << 62;
+use jsp_model::{LAST_NUMBER, State};
 
 /// Whether the number is among these.
 pub fn contains(numbers: &[u64], number: u64) -> bool

@@ -4,8 +4,9 @@ ghost use Rattle.std.specs.List.{list_any};
 ghost use Rattle.jsp_model.specs.Lookup.{is_open as has_open, is_waiting as waits, waiting_count};
 ghost use Rattle.jsp_model.specs.Changes.{open_session, close as closed, set_version as with_version};
 ghost use Rattle.jsp_state.specs.Versions.{versioned};
+ghost use Rattle.jsp_model.specs.declared.limits.TheConstants.{MOST_WAITING};
 
-use jsp_model::{Blocked, Commit, MatchSet, Registration, Session, State};
+use jsp_model::{Blocked, Commit, MOST_WAITING, MatchSet, Registration, Session, State};
 use jsp_types::NoMemory;
 use jsp_wire::Version;
 
@@ -40,12 +41,9 @@ fn is_asked(commits: &[Commit], session: u64, id: u64) -> bool
     commits.iter().any(|c| c.session == session && c.id == id)
 }
 
-/// How many requests of a session may wait, blocked ones and unanswered commits (this profile's own).
-const MOST_WAITING: usize = 64;
-
 /// Whether as many of the session's requests wait as may.
 pub fn waits_for_many(state: &State, session: u64) -> bool
-    ensures { result ≡ nat_le 64 (waiting_count state.now session) }
+    ensures { result ≡ nat_le MOST_WAITING (waiting_count state.now session) }
 {
     let blocked = count_blocked(state.blocked.as_slice(), session);
     let commits = count_asked(state.commits.as_slice(), session);

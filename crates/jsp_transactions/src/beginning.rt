@@ -1,6 +1,7 @@
 //! A transaction begins.
 ghost use Rattle.std.specs.Prelude.{◌≡◌, ◌≤◌, ◌+◌, ◌^◌, IfOk, OnErr};
 ghost use Rattle.jsp_model.specs.Changes.{begin as begun};
+ghost use Rattle.jsp_model.specs.declared.limits.TheConstants.{LAST_NUMBER, LAST_TIME};
 
 use jsp_lease::ms_of;
 use jsp_model::{State, Transaction};
@@ -14,8 +15,8 @@ use std::alloc::Global;
 ///
 /// Where memory is refused the state is as it was.
 pub fn begin(alloc: Global, state: &mut State, lease: i64) -> Result<u64, NoMemory>
-    requires time { state.old.time ≤ 2 ^ 62 }
-    requires next_number { state.old.next_number ≤ 2 ^ 62 + 1 }
+    requires time { state.old.time ≤ LAST_TIME }
+    requires next_number { state.old.next_number ≤ LAST_NUMBER + 1 }
     ensures ok { IfOk result (λ n. (n ≡ state.old.next_number) × (state.new ≡ begun state.old lease)) }
     ensures err { OnErr result (state.new ≡ state.old) }
 {

@@ -3,6 +3,7 @@ ghost use Rattle.std.specs.Prelude.{◌≡◌, ◌==◌, ◌&&◌, ◌-◌, ◌^
 ghost use Rattle.std.specs.List.{list_all};
 ghost use Rattle.jsp_model.specs.Changes.{reset as after_reset};
 ghost use Rattle.jsp_transactions.specs.Resetting.{counted};
+ghost use Rattle.jsp_model.specs.declared.limits.TheConstants.{LAST_CRASH_COUNT};
 
 use jsp_model::{Blocked, MatchSet, Registration, Row, Space, State};
 
@@ -11,7 +12,7 @@ use jsp_model::{Blocked, MatchSet, Registration, Row, Space, State};
 /// It counts the crash, so that it votes to abort where it had joined. Takes no memory. The caller's
 /// condition: each space counts fewer than 2^32 crashes.
 pub fn reset(state: &mut State, space: u64)
-    requires { IsTrue (list_all (λ p. nat_le p.crash_count (2 ^ 32 - 1)) state.old.spaces) }
+    requires { IsTrue (list_all (λ p. nat_le p.crash_count LAST_CRASH_COUNT) state.old.spaces) }
     ensures { state.new ≡ after_reset state.old space }
 {
     let spaces = &mut state.spaces;
@@ -27,7 +28,7 @@ pub fn reset(state: &mut State, space: u64)
 }
 
 fn count_crash(spaces: &mut [Space], space: u64)
-    requires { IsTrue (list_all (λ p. nat_le p.crash_count (2 ^ 32 - 1)) spaces.old) }
+    requires { IsTrue (list_all (λ p. nat_le p.crash_count LAST_CRASH_COUNT) spaces.old) }
     ensures { spaces.new ≡ counted space spaces.old }
 {
     let place = space as usize;

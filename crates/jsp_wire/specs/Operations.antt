@@ -5,7 +5,9 @@ use Rattle.serde_json.specs.Data.{Data}
 use Rattle.jsp_wire.specs.declared.ask.Ask.{Ask}
 use Rattle.jsp_wire.specs.declared.ask.Ask.TheVariants as ask
 use Rattle.jsp_wire.specs.declared.ask.Search.{Search}
-use Rattle.jsp_wire.specs.Parts.{◌>>=◌, only, text_at, number_at, optional_text_at, optional_number_at, numbers_at, pairs_at, kinds_at, entry_at, template_at}
+use Rattle.jsp_wire.specs.declared.ask.Version.{Version}
+use Rattle.jsp_wire.specs.declared.ask.Version.TheVariants as version
+use Rattle.jsp_wire.specs.Parts.{◌>>=◌, only, text_at, number_at, count_at, version_at, optional_text_at, optional_number_at, numbers_at, pairs_at, kinds_at, entry_at, entries_at, template_at, templates_at}
 
 unfoldable pub declare_of : Data → Option Ask
 declare_of d = do
@@ -96,9 +98,73 @@ keyless_of a d = do
   _ ← only (codes "id" ∷ codes "op" ∷ []) d
   Some a
 
--- the operation of that name, by the keys of the object
-unfoldable pub ask_of : List ℕ → Data → Option Ask
-ask_of name d =
+-- the version that the line is to have
+unfoldable pub hello_of : Data → Option Ask
+hello_of d = do
+  _ ← only (codes "id" ∷ codes "op" ∷ codes "version" ∷ []) d
+  v ← version_at (codes "version") d
+  Some (ask.Hello v)
+
+-- ---- what version 2 adds
+
+unfoldable pub write_all_of : Data → Option Ask
+write_all_of d = do
+  _ ← only (codes "id" ∷ codes "op" ∷ codes "space" ∷ codes "entries" ∷ codes "lease" ∷ codes "txn" ∷ []) d
+  space ← text_at (codes "space") d
+  entries ← entries_at (codes "entries") d
+  lease ← number_at (codes "lease") d
+  txn ← optional_number_at (codes "txn") d
+  Some (ask.WriteAll (record { space = space; entries = entries; lease = lease; txn = txn }))
+
+unfoldable pub take_many_of : Data → Option Ask
+take_many_of d = do
+  _ ← only (codes "id" ∷ codes "op" ∷ codes "space" ∷ codes "templates" ∷ codes "most" ∷ codes "timeout" ∷ codes "txn" ∷ []) d
+  space ← text_at (codes "space") d
+  templates ← templates_at (codes "templates") d
+  most ← count_at (codes "most") d
+  timeout ← number_at (codes "timeout") d
+  txn ← optional_number_at (codes "txn") d
+  Some (ask.TakeMany (record { space = space; templates = templates; most = most; timeout = timeout; txn = txn }))
+
+-- a match set to be opened
+unfoldable pub contents_of : Data → Option Ask
+contents_of d = do
+  _ ← only (codes "id" ∷ codes "op" ∷ codes "space" ∷ codes "template" ∷ codes "lease" ∷ codes "txn" ∷ []) d
+  space ← text_at (codes "space") d
+  template ← template_at (codes "template") d
+  lease ← number_at (codes "lease") d
+  txn ← optional_number_at (codes "txn") d
+  Some (ask.Contents (record { space = space; template = template; lease = lease; txn = txn }))
+
+unfoldable pub next_of : Data → Option Ask
+next_of d = do
+  _ ← only (codes "id" ∷ codes "op" ∷ codes "set" ∷ codes "most" ∷ []) d
+  set ← number_at (codes "set") d
+  most ← count_at (codes "most") d
+  Some (ask.Next set most)
+
+unfoldable pub close_set_of : Data → Option Ask
+close_set_of d = do
+  _ ← only (codes "id" ∷ codes "op" ∷ codes "set" ∷ []) d
+  set ← number_at (codes "set") d
+  Some (ask.CloseSet set)
+
+-- ---- by name
+
+-- the operation of that name, of those that a line of version 2 has and one of version 1 hasn't
+unfoldable pub added_of : Version → List ℕ → Data → Option Ask
+added_of version.One name d = None
+added_of version.Two name d =
+    if bytes_eq name (codes "write_all") then write_all_of d
+    else (if bytes_eq name (codes "take_many") then take_many_of d
+    else (if bytes_eq name (codes "contents") then contents_of d
+    else (if bytes_eq name (codes "next") then next_of d
+    else (if bytes_eq name (codes "close_set") then close_set_of d
+    else None))))
+
+-- the operation of that name on a line of this version, by the keys of the object
+unfoldable pub ask_of : Version → List ℕ → Data → Option Ask
+ask_of v name d =
     if bytes_eq name (codes "declare") then declare_of d
     else (if bytes_eq name (codes "write") then write_of d
     else (if bytes_eq name (codes "read") then option_map ask.Read (search_of d)
@@ -117,4 +183,5 @@ ask_of name d =
     else (if bytes_eq name (codes "reset") then reset_of d
     else (if bytes_eq name (codes "spaces") then keyless_of ask.Spaces d
     else (if bytes_eq name (codes "bye") then keyless_of ask.Bye d
-    else None)))))))))))))))))
+    else (if bytes_eq name (codes "hello") then hello_of d
+    else added_of v name d))))))))))))))))))

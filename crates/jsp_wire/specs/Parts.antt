@@ -1,5 +1,5 @@
 -- The parts of a request's object, over the value that serde_json reads.
-use Rattle.std.specs.Prelude.{◌≡◌, ℕ, ◌||◌, ℤ, pos, negsuc, List, [], ◌∷◌, Bool, false, if◌then◌else◌, Option, Some, None, option_map, Result, Ok, Err, codes}
+use Rattle.std.specs.Prelude.{◌≡◌, ℕ, ◌==◌, ◌||◌, ℤ, pos, negsuc, List, [], ◌∷◌, Bool, false, if◌then◌else◌, Option, Some, None, option_map, Result, Ok, Err, codes}
 use Rattle.std.specs.Str.{bytes_eq}
 use Rattle.serde_json.specs.Data.{Data, null, boolean, number, string, array, object, Items, no_items, item, Members, no_members, member}
 use Rattle.serde_json.specs.Find.{get, as_str, as_number, as_i64, as_array, as_object}
@@ -8,6 +8,8 @@ use Rattle.jsp_types.specs.declared.value.Kind.TheVariants as kind
 use Rattle.jsp_types.specs.declared.value.Value.{Value}
 use Rattle.jsp_types.specs.declared.value.Value.TheVariants as value
 use Rattle.jsp_types.specs.declared.entry.Raw.{Raw}
+use Rattle.jsp_wire.specs.declared.ask.Version.{Version}
+use Rattle.jsp_wire.specs.declared.ask.Version.TheVariants as version
 use Rattle.jsp_wire.specs.declared.fault.Flaw.{Flaw}
 use Rattle.jsp_wire.specs.declared.fault.Flaw.TheVariants.{Refused, Memory}
 
@@ -71,9 +73,22 @@ abbrev pub natural : ℤ → Option ℕ
 natural (pos n) = Some n
 natural (negsuc n) = None
 
+-- a number that isn't negative
+abbrev pub count_at : List ℕ → Data → Option ℕ
+count_at k d = number_at k d >>= natural
+
+abbrev pub version_numbered : ℕ → Option Version
+version_numbered n =
+    if n == 1 then Some version.One
+    else (if n == 2 then Some version.Two
+    else None)
+
+abbrev pub version_at : List ℕ → Data → Option Version
+version_at k d = count_at k d >>= version_numbered
+
 -- the number of a request
 abbrev pub id_at : Data → Option ℕ
-id_at d = number_at (codes "id") d >>= natural
+id_at d = count_at (codes "id") d
 
 -- ---- lists
 
@@ -146,6 +161,15 @@ raw_of d = do
 abbrev pub entry_at : List ℕ → Data → Option Raw
 entry_at k d = get k d >>= raw_of
 
+abbrev pub entries_at : List ℕ → Data → Option (List Raw)
+entries_at k d = items_at raw_of k d
+
 -- null is the template that matches every entry
+abbrev pub template_of : Data → Option (Option Raw)
+template_of d = or_null raw_of d
+
 abbrev pub template_at : List ℕ → Data → Option (Option Raw)
-template_at k d = get k d >>= or_null raw_of
+template_at k d = get k d >>= template_of
+
+abbrev pub templates_at : List ℕ → Data → Option (List (Option Raw))
+templates_at k d = items_at template_of k d

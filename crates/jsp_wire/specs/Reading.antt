@@ -1,4 +1,4 @@
--- What a payload is: one request, or one fault.
+-- What a payload is on a line of each version: one request, or one fault.
 use Rattle.std.specs.Prelude.{◌≡◌, ℕ, List, if◌then◌else◌, Option, Some, None, Result, Ok, Err, codes}
 use Rattle.std.specs.Str.{is_utf8}
 use Rattle.serde_json.specs.Data.{Data}
@@ -6,6 +6,7 @@ use Rattle.serde_json.specs.Read.{read}
 use Rattle.serde_json.specs.View.{view}
 use Rattle.serde_json.specs.declared.value.Value.{Value}
 use Rattle.jsp_wire.specs.declared.ask.Request.{Request}
+use Rattle.jsp_wire.specs.declared.ask.Version.{Version}
 use Rattle.jsp_wire.specs.declared.fault.Flaw.{Flaw}
 use Rattle.jsp_wire.specs.declared.fault.Flaw.TheVariants.{Refused, Memory}
 use Rattle.jsp_wire.specs.declared.fault.WireFault.{WireFault}
@@ -31,24 +32,24 @@ Parses (Ok v) read = read ≡ Some (view v)
 Parses (Err Refused) read = read ≡ None
 Parses (Err Memory) read = Unit {0}
 
-unfoldable pub request_of : Data → Option Request
-request_of d = do
+unfoldable pub request_of : Version → Data → Option Request
+request_of v d = do
   id ← id_at d
   name ← text_at (codes "op") d
-  ask ← ask_of name d
+  ask ← ask_of v name d
   within_limits (record { id = id; ask = ask })
 
 abbrev pub request_or_fault : Option Request → Option ℕ → Reading
 request_or_fault (Some r) id = request r
 request_or_fault None id = bad_request id
 
-abbrev pub reading_of : Option Data → Reading
-reading_of None = bad_json
-reading_of (Some d) = request_or_fault (request_of d) (id_at d)
+abbrev pub reading_of : Version → Option Data → Reading
+reading_of v None = bad_json
+reading_of v (Some d) = request_or_fault (request_of v d) (id_at d)
 
--- what a payload is
-unfoldable pub reading : List ℕ → Reading
-reading payload = reading_of (json_of payload)
+-- what a payload is on a line of this version
+unfoldable pub reading : Version → List ℕ → Reading
+reading v payload = reading_of v (json_of payload)
 
 -- what was returned is what the payload is, unless memory ran out
 abbrev pub Answers : Result Request WireFault → Reading → Type 0

@@ -6,7 +6,7 @@ use crate::limits::is_within_limits;
 use crate::{Ask, Request};
 use std::marker::Model;
 
-/// A request within its limits, of an operation that is built. Contracts see it as the request.
+/// A request within its limits. Contracts see it as the request.
 ///
 /// An id is at most 9,223,372,036,854,775,807. A handback has at most 256 bytes, a batch 1 to 64
 /// leases or entries; 1 to 8 templates and 1 to 16 entries are asked for together.
@@ -36,7 +36,7 @@ impl Asked {
         Asked { request }
     }
 
-    /// The request, if it keeps its limits and its operation is built.
+    /// The request, if it keeps its limits.
     pub fn checked(request: Request) -> Option<Asked>
         ensures { result ≡ within_limits request }
     {

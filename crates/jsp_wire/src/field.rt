@@ -1,9 +1,10 @@
 //! The parts of a request's object.
 ghost use Rattle.std.specs.Prelude.{◌≡◌, map, Some};
 ghost use Rattle.serde_json.specs.View.{view, members_view};
-ghost use Rattle.jsp_wire.specs.Parts.{Gives, is_known, only, only_members, or_null, number_of, text_at, number_at, optional_text_at, optional_number_at, id_at, each_member, members_at, value_of, kind_named, kind_of, kinds_at, raw_of, entry_at, template_at};
+ghost use Rattle.jsp_wire.specs.Parts.{Gives, is_known, only, only_members, or_null, number_of, text_at, number_at, count_at, version_numbered, version_at, optional_text_at, optional_number_at, id_at, each_member, members_at, value_of, kind_named, kind_of, kinds_at, raw_of, entry_at, template_of, template_at};
 ghost use Rattle.serde_json.specs.Find.{as_str};
 
+use crate::Version;
 use crate::fault::Flaw;
 use jsp_types::{Items, Kind, Raw, Text, Value};
 use serde_json::{Map, Value as Json};
@@ -61,6 +62,34 @@ pub(crate) fn number_at(json: &Json, name: &str) -> Result<i64, Flaw>
     ensures { Gives result (number_at name.now (view json.now)) }
 {
     json.get(name).and_then(Json::as_i64).ok_or(Flaw::Refused)
+}
+
+/// The number at a key, where it isn't negative.
+pub(crate) fn count_at(json: &Json, name: &str) -> Result<u64, Flaw>
+    ensures { Gives result (count_at name.now (view json.now)) }
+{
+    let n = number_at(json, name)?;
+    if n < 0 {
+        return Err(Flaw::Refused);
+    }
+    Ok(n as u64)
+}
+
+fn version_numbered(n: u64) -> Result<Version, Flaw>
+    ensures { Gives result (version_numbered n) }
+{
+    match n {
+        1 => Ok(Version::One),
+        2 => Ok(Version::Two),
+        _ => Err(Flaw::Refused),
+    }
+}
+
+/// The version at a key: 1 or 2.
+pub(crate) fn version_at(json: &Json, name: &str) -> Result<Version, Flaw>
+    ensures { Gives result (version_at name.now (view json.now)) }
+{
+    version_numbered(count_at(json, name)?)
 }
 
 /// The request's id: a number from 0 to 9,223,372,036,854,775,807.
@@ -195,8 +224,9 @@ pub(crate) fn kinds_at(
     }
 }
 
+/// An entry.
 #[tactic(auto, unfolding(crate::specs::Parts::raw_of))]
-fn raw(alloc: Global, json: &Json) -> Result<Raw, Flaw>
+pub(crate) fn raw(alloc: Global, json: &Json) -> Result<Raw, Flaw>
     ensures { Gives result (raw_of (view json.now)) }
 {
     only(json, &["class", "fields"])?;
@@ -215,8 +245,9 @@ pub(crate) fn entry_at(alloc: Global, json: &Json, name: &str) -> Result<Raw, Fl
     }
 }
 
-fn template(alloc: Global, json: &Json) -> Result<Option<Raw>, Flaw>
-    ensures { Gives result (or_null raw_of (view json.now)) }
+/// A template: null, or as an entry.
+pub(crate) fn template(alloc: Global, json: &Json) -> Result<Option<Raw>, Flaw>
+    ensures { Gives result (template_of (view json.now)) }
 {
     if json.is_null() {
         return Ok(None);
@@ -225,7 +256,7 @@ fn template(alloc: Global, json: &Json) -> Result<Option<Raw>, Flaw>
     Ok(Some(like))
 }
 
-/// The template at a key: null, or as an entry.
+/// The template at a key.
 pub(crate) fn template_at(alloc: Global, json: &Json, name: &str) -> Result<Option<Raw>, Flaw>
     ensures { Gives result (template_at name.now (view json.now)) }
 {

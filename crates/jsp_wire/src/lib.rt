@@ -1,13 +1,15 @@
 //! Requests, as payloads write them.
 //!
 //! A payload is read as JSON, and the JSON as a request: an id, an operation and the operation's
-//! own keys. `read_ask` gives the request, or the one fault that the payload is, with its id where
-//! it has one. Its contract is exact both ways, memory apart: `specs/Reading.antt` says what a
-//! payload is, `specs/Operations.antt` which keys each operation has, and `specs/Limits.antt` which
-//! limits a request keeps and which operations are built: all of the first version of the protocol.
-//! An `Asked` holds both in its type.
+//! own keys. `read_ask_in` gives the request, or the one fault that the payload is, with its id
+//! where it has one, on a line of either version of the protocol; `read_ask` does on one of version
+//! 1, as each line is at first. Their contract is exact both ways, memory apart:
+//! `specs/Reading.antt` says what a payload is, `specs/Operations.antt` which operations a version
+//! has and which keys each has, and `specs/Limits.antt` which limits a request keeps. An `Asked`
+//! holds these in its type.
 #![tactic(auto)]
 
+mod added;
 mod ask;
 mod asked;
 mod fault;
@@ -21,7 +23,7 @@ pub use ask::{
 };
 pub use asked::Asked;
 pub use fault::WireFault;
-pub use read::read_ask;
+pub use read::{read_ask, read_ask_in};
 
 #[cfg(test)]
 mod tests;

@@ -1,6 +1,6 @@
-//! The limits of a request, and which operations are built.
+//! The limits of a request.
 ghost use Rattle.std.specs.Prelude.{◌≡◌};
-ghost use Rattle.jsp_wire.specs.Limits.{is_between, has_fitting_parts, is_built, is_within_limits};
+ghost use Rattle.jsp_wire.specs.Limits.{is_between, has_fitting_parts, is_within_limits};
 
 use crate::{Ask, Request};
 
@@ -28,35 +28,9 @@ fn has_fitting_parts(ask: &Ask) -> bool
     }
 }
 
-fn is_built(ask: &Ask) -> bool
-    ensures { result ≡ is_built ask.now }
-{
-    match ask {
-        Ask::Declare(_) => true,
-        Ask::Write(_) => true,
-        Ask::Read(_) => true,
-        Ask::ReadIf(_) => true,
-        Ask::Take(_) => true,
-        Ask::TakeIf(_) => true,
-        Ask::Notify(_) => true,
-        Ask::Renew { .. } => true,
-        Ask::Cancel { .. } => true,
-        Ask::RenewAll { .. } => true,
-        Ask::CancelAll { .. } => true,
-        Ask::Txn { .. } => true,
-        Ask::Commit { .. } => true,
-        Ask::Abort { .. } => true,
-        Ask::State { .. } => true,
-        Ask::Reset { .. } => true,
-        Ask::Spaces => true,
-        Ask::Bye => true,
-        _ => false,
-    }
-}
-
-/// Whether the request keeps its limits and its operation is built.
+/// Whether the request keeps its limits.
 pub(crate) fn is_within_limits(request: &Request) -> bool
     ensures { result ≡ is_within_limits request.now }
 {
-    request.id < 1 << 63 && has_fitting_parts(&request.ask) && is_built(&request.ask)
+    request.id < 1 << 63 && has_fitting_parts(&request.ask)
 }

@@ -1,9 +1,10 @@
 //! The lists of a request's object.
 ghost use Rattle.serde_json.specs.View.{view, items_view};
-ghost use Rattle.jsp_wire.specs.Parts.{Gives, number_of, each_item, two_numbers, pair_of, numbers_at, pairs_at};
+ghost use Rattle.jsp_wire.specs.Parts.{Gives, number_of, each_item, two_numbers, pair_of, numbers_at, pairs_at, raw_of, template_of, entries_at, templates_at};
 
 use crate::fault::Flaw;
-use jsp_types::Items;
+use crate::field::{raw, template};
+use jsp_types::{Items, Raw};
 use serde_json::Value as Json;
 use std::alloc::Global;
 
@@ -71,5 +72,51 @@ pub(crate) fn pairs_at(alloc: Global, json: &Json, name: &str) -> Result<Items<(
     match json.get(name).and_then(Json::as_array) {
         None => Err(Flaw::Refused),
         Some(items) => pairs(alloc, items),
+    }
+}
+
+fn entries(alloc: Global, items: &[Json]) -> Result<Items<Raw>, Flaw>
+    ensures { Gives result (each_item raw_of (items_view items.now)) }
+{
+    let mut found = Items::new(alloc);
+    for json in items {
+        let entry = raw(alloc, json)?;
+        found.push(entry)?;
+    }
+    Ok(found)
+}
+
+/// The entries of the list at a key.
+pub(crate) fn entries_at(alloc: Global, json: &Json, name: &str) -> Result<Items<Raw>, Flaw>
+    ensures { Gives result (entries_at name.now (view json.now)) }
+{
+    match json.get(name).and_then(Json::as_array) {
+        None => Err(Flaw::Refused),
+        Some(items) => entries(alloc, items),
+    }
+}
+
+fn templates(alloc: Global, items: &[Json]) -> Result<Items<Option<Raw>>, Flaw>
+    ensures { Gives result (each_item template_of (items_view items.now)) }
+{
+    let mut found = Items::new(alloc);
+    for json in items {
+        let like = template(alloc, json)?;
+        found.push(like)?;
+    }
+    Ok(found)
+}
+
+/// The templates of the list at a key.
+pub(crate) fn templates_at(
+    alloc: Global,
+    json: &Json,
+    name: &str,
+) -> Result<Items<Option<Raw>>, Flaw>
+    ensures { Gives result (templates_at name.now (view json.now)) }
+{
+    match json.get(name).and_then(Json::as_array) {
+        None => Err(Flaw::Refused),
+        Some(items) => templates(alloc, items),
     }
 }

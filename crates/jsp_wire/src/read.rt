@@ -1,17 +1,19 @@
 //! From a payload to a request.
 ghost use Rattle.std.specs.Prelude.{Some};
 ghost use Rattle.serde_json.specs.View.{view};
+ghost use Rattle.jsp_wire.specs.declared.ask.Version.TheVariants.{One};
 ghost use Rattle.jsp_wire.specs.Parts.{Gives};
-ghost use Rattle.jsp_wire.specs.Operations.{declare_of, write_of, search_of, notify_of, renew_of, cancel_of, renew_all_of, cancel_all_of, begin_of, transaction_of, reset_of, keyless_of, ask_of};
+ghost use Rattle.jsp_wire.specs.Operations.{declare_of, write_of, search_of, notify_of, renew_of, cancel_of, renew_all_of, cancel_all_of, begin_of, transaction_of, reset_of, keyless_of, hello_of, ask_of};
 ghost use Rattle.jsp_wire.specs.Reading.{Answers, Parses, json_of, request_of, reading_of, reading};
 
+use crate::added::added;
 use crate::fault::{Flaw, WireFault};
 use crate::field::{
     entry_at, id_at, kinds_at, number_at, only, optional_number_at, optional_text_at, template_at,
-    text_at,
+    text_at, version_at,
 };
 use crate::list::{numbers_at, pairs_at};
-use crate::{Ask, Asked, Declare, Notify, Request, Search, Write};
+use crate::{Ask, Asked, Declare, Notify, Request, Search, Version, Write};
 use serde_json::Value as Json;
 use std::alloc::Global;
 
@@ -160,9 +162,18 @@ fn keyless(json: &Json, ask: Ask) -> Result<Ask, Flaw>
     Ok(ask)
 }
 
+#[tactic(auto, unfolding(crate::specs::Operations::hello_of))]
+fn hello(json: &Json) -> Result<Ask, Flaw>
+    ensures { Gives result (hello_of (view json.now)) }
+{
+    only(json, &["id", "op", "version"])?;
+    let version = version_at(json, "version")?;
+    Ok(Ask::Hello { version })
+}
+
 #[tactic(auto, unfolding(crate::specs::Operations::ask_of))]
-fn ask(alloc: Global, name: &str, json: &Json) -> Result<Ask, Flaw>
-    ensures { Gives result (ask_of name.now (view json.now)) }
+fn ask(alloc: Global, version: Version, name: &str, json: &Json) -> Result<Ask, Flaw>
+    ensures { Gives result (ask_of version name.now (view json.now)) }
 {
     match name {
         "declare" => declare(alloc, json),
@@ -189,19 +200,20 @@ fn ask(alloc: Global, name: &str, json: &Json) -> Result<Ask, Flaw>
         "reset" => reset(alloc, json),
         "spaces" => keyless(json, Ask::Spaces),
         "bye" => keyless(json, Ask::Bye),
-        _ => Err(Flaw::Refused),
+        "hello" => hello(json),
+        _ => added(alloc, version, name, json),
     }
 }
 
 #[tactic(auto, unfolding(crate::specs::Reading::request_of))]
-fn request(alloc: Global, json: &Json) -> Result<Asked, Flaw>
-    ensures { Gives result (request_of (view json.now)) }
+fn request(alloc: Global, version: Version, json: &Json) -> Result<Asked, Flaw>
+    ensures { Gives result (request_of version (view json.now)) }
 {
     let Some(id) = id_at(json) else {
         return Err(Flaw::Refused);
     };
     let name = text_at(alloc, json, "op")?;
-    let ask = ask(alloc, name.as_str(), json)?;
+    let ask = ask(alloc, version, name.as_str(), json)?;
     match Asked::checked(Request { id, ask }) {
         None => Err(Flaw::Refused),
         Some(asked) => Ok(asked),
@@ -222,30 +234,40 @@ fn parse(alloc: Global, payload: &[u8]) -> Result<Json, Flaw>
     }
 }
 
-fn request_or_fault(alloc: Global, json: &Json) -> Result<Asked, WireFault>
-    ensures { Answers result (reading_of (Some (view json.now))) }
+fn request_or_fault(alloc: Global, version: Version, json: &Json) -> Result<Asked, WireFault>
+    ensures { Answers result (reading_of version (Some (view json.now))) }
 {
-    match request(alloc, json) {
+    match request(alloc, version, json) {
         Ok(asked) => Ok(asked),
         Err(Flaw::Memory) => Err(WireFault::NoMemory),
         Err(Flaw::Refused) => Err(WireFault::BadRequest { id: id_at(json) }),
     }
 }
 
-/// The request that a payload is, or its one fault.
+/// The request that a payload is on a line of version 1, as each line is at first, or its one fault.
+///
+/// It has the operations of version 1 and `hello`. All else is as [`read_ask_in`] says.
+pub fn read_ask(alloc: Global, payload: &[u8]) -> Result<Asked, WireFault>
+    ensures { Answers result (reading One payload.now) }
+{
+    read_ask_in(alloc, Version::One, payload)
+}
+
+/// The request that a payload is on a line of this version, or its one fault.
 ///
 /// A payload is JSON (RFC 8259) as serde_json reads it, nested at most 127 deep. A request is an
 /// object with `id`, `op` and the keys of its operation and no other; `parent` and `txn` may be
 /// absent or null, but for the `txn` of `commit`, `abort` and `state`. `leases` is a list, of numbers
 /// to cancel them and of pairs `[lease, ms]` to renew them; a pair is an array of exactly two
-/// numbers. Its limits are those of [`Asked`]. The operations, their keys and these limits are this
-/// profile's own.
+/// numbers. A line of version 2 has the operations of version 1 and `write_all`, `take_many`,
+/// `contents`, `next` and `close_set`. The limits of a request are those of [`Asked`]. The
+/// operations, their keys and these limits are this profile's own.
 #[tactic(auto, unfolding(crate::specs::Reading::reading))]
-pub fn read_ask(alloc: Global, payload: &[u8]) -> Result<Asked, WireFault>
-    ensures { Answers result (reading payload.now) }
+pub fn read_ask_in(alloc: Global, version: Version, payload: &[u8]) -> Result<Asked, WireFault>
+    ensures { Answers result (reading version payload.now) }
 {
     match parse(alloc, payload) {
-        Ok(json) => request_or_fault(alloc, &json),
+        Ok(json) => request_or_fault(alloc, version, &json),
         Err(Flaw::Memory) => Err(WireFault::NoMemory),
         Err(Flaw::Refused) => Err(WireFault::BadJson),
     }

@@ -1,12 +1,16 @@
 //! What is read as a request and what is refused, where that is JSON's to say, and that each operation
 //! is read where there is memory.
-use crate::{WireFault, read_ask};
+use crate::{Version, WireFault, read_ask, read_ask_in};
 use std::test::Fail;
 
 // Whether a payload is read, and its id, or its refusal and the refusal's id.
-fn shows(rt: &HostRuntime, payload: &[u8]) -> Result<String, Fail> {
+fn shows(rt: &HostRuntime, version: Version, payload: &[u8]) -> Result<String, Fail> {
     let alloc = rt.alloc();
-    match read_ask(alloc, payload) {
+    let read = match version {
+        Version::One => read_ask(alloc, payload),
+        Version::Two => read_ask_in(alloc, version, payload),
+    };
+    match read {
         Ok(asked) => Ok(format!(in alloc; "{} read", asked.id())?),
         Err(WireFault::BadRequest { id: Some(id) }) => Ok(format!(in alloc; "{id} refused 2")?),
         Err(WireFault::BadRequest { id: None }) => Ok(String::from_str(alloc, "refused 2")?),
@@ -45,13 +49,13 @@ fn odd_json(rt: HostRuntime) -> Result<(), Fail> {
         ),
     ] {
         assert_eq!(rt;
-            shows(&rt, payload.as_bytes())?.as_str(),
+            shows(&rt, Version::One, payload.as_bytes())?.as_str(),
             wanted,
             "{payload}"
         );
     }
     let no_text = b"{\"id\":5,\"op\":\"\xff\"}";
-    assert_eq!(rt; shows(&rt, no_text)?.as_str(), "refused 1");
+    assert_eq!(rt; shows(&rt, Version::One, no_text)?.as_str(), "refused 1");
     Ok(())
 }
 
@@ -75,7 +79,11 @@ fn deep_json_and_long_numbers(rt: HostRuntime) -> Result<(), Fail> {
         ("9", 400, "refused 1"),
     ] {
         let payload = repeated(&rt, bytes.as_bytes(), count)?;
-        assert_eq!(rt; shows(&rt, payload.as_slice())?.as_str(), wanted, "{count}");
+        assert_eq!(rt;
+            shows(&rt, Version::One, payload.as_slice())?.as_str(),
+            wanted,
+            "{count}"
+        );
     }
     Ok(())
 }
@@ -101,9 +109,15 @@ fn each_operation_where_there_is_memory(rt: HostRuntime) -> Result<(), Fail> {
         r#"{"id":5,"op":"reset","space":"a"}"#,
         r#"{"id":5,"op":"spaces"}"#,
         r#"{"id":5,"op":"bye"}"#,
+        r#"{"id":5,"op":"hello","version":1}"#,
+        r#"{"id":5,"op":"write_all","space":"a","entries":[{"class":"J","fields":{"k":"x"}}],"lease":1,"txn":3}"#,
+        r#"{"id":5,"op":"take_many","space":"a","templates":[null],"most":1,"timeout":1,"txn":3}"#,
+        r#"{"id":5,"op":"contents","space":"a","template":null,"lease":1,"txn":3}"#,
+        r#"{"id":5,"op":"next","set":3,"most":16}"#,
+        r#"{"id":5,"op":"close_set","set":3}"#,
     ] {
         assert_eq!(rt;
-            shows(&rt, payload.as_bytes())?.as_str(),
+            shows(&rt, Version::Two, payload.as_bytes())?.as_str(),
             "5 read",
             "{payload}"
         );

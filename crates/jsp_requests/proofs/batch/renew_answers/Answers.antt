@@ -1,6 +1,5 @@
-use Rattle.std.proofs.Common.{◌≡◌, ◌∙◌, map, arith}
+use Rattle.std.proofs.Common.{arith}
 use Rattle.std.proofs.lemmas.List.{take_all}
-use Rattle.jsp_model.specs.Answers.{renew_answer}
 use Rattle.jsp_requests.proofs.Batching.{all_renewed}
 use Rattle.jsp_requests.proofs.batch.renew_answers.Goals as goal
 

@@ -1,4 +1,4 @@
-use Rattle.std.proofs.Common.{◌≡◌, ◌+◌, ◌∙◌, ℕ, Some, length, take, get_or, ap, sym, true, false, arith}
+use Rattle.std.proofs.Common.{◌≡◌, ◌+◌, ◌∙◌, ℕ, Some, length, take, get_or, ap, sym, arith}
 use Rattle.jsp_model.specs.declared.state.Row.{Row}
 use Rattle.jsp_requests.specs.Paging.{shows}
 use Rattle.jsp_requests.proofs.Paging.{shown, last_number, shown_same, page_early, last_more, count_more}

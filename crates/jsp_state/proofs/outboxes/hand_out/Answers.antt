@@ -1,6 +1,5 @@
-use Rattle.std.proofs.Common.{◌≡◌, ◌∙◌, ap, sym, take, [], List}
-use Rattle.std.proofs.lemmas.Result.{IfOk-weaker, on_ok_weaker}
-use Rattle.jsp_reply.specs.declared.reply.Reply.{Reply}
+use Rattle.std.proofs.Common.{◌∙◌, ap, sym, take}
+use Rattle.std.proofs.lemmas.Result.{IfOk-weaker}
 use Rattle.jsp_state.proofs.Handing.{handed_next, handed_none, no_answers, answers_are, take_none}
 use Rattle.jsp_state.proofs.outboxes.hand_out.Goals as goal
 

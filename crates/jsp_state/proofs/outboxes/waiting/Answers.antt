@@ -1,6 +1,5 @@
-use Rattle.std.proofs.Common.{◌≡◌, ◌∙◌, sym, ap, refl, length, []}
+use Rattle.std.proofs.Common.{◌∙◌, sym, ap, refl, length, []}
 use Rattle.std.proofs.lemmas.List.{get_or_read}
-use Rattle.jsp_reply.specs.declared.reply.Reply.{Reply}
 use Rattle.jsp_model.specs.declared.state.Outbox.{Outbox}
 use Rattle.jsp_state.proofs.Handing.{no_answers, waiting_at}
 use Rattle.jsp_state.proofs.Posting.{found_at, box_at}

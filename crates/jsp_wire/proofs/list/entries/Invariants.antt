@@ -1,0 +1,10 @@
+use Rattle.std.proofs.Common.{◌≡◌, drop}
+use Rattle.serde_json.specs.View.{items_view}
+use Rattle.jsp_wire.specs.Parts.{each_item, raw_of}
+use Rattle.jsp_wire.proofs.Loop.{with_front}
+use Rattle.jsp_wire.proofs.list.entries.Given as goal
+
+-- what is found, and then what is still to be read, is the whole
+abbrev pub invariant-loop-json : goal.invariant-loop-json
+invariant-loop-json l =
+    with_front l.found (each_item raw_of (items_view (drop l.json-index l.items))) ≡ each_item raw_of (items_view l.items)
