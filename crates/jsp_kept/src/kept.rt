@@ -15,7 +15,7 @@ use jsp_audit::empty_image;
 use jsp_drive::LineInput;
 use jsp_model::{Config, House, Image, Input, Settled, Step, Stopped, Why};
 use jsp_reply::Said;
-use jsp_types::NoMemory;
+use jsp_types::{NoMemory, Text};
 use std::alloc::Global;
 use std::marker::Model;
 use std::sync::ledger::{Blank, Book, Ledger, Share};
@@ -177,6 +177,25 @@ impl<H: House, A: Ledger, O: Ledger> Kept<H, A, O> {
         ensures { result ≡ awaits_decision self.now.state }
     {
         self.house.is_voting()
+    }
+
+    /// The names of the spaces.
+    pub fn spaces(&self) -> &[Text]
+        ensures { result.now ≡ self.now.spaces }
+    {
+        self.config.spaces()
+    }
+
+    /// Whether an era was sealed.
+    pub fn is_sealed(&self) -> bool
+        ensures { result ≡ self.now.is_sealed }
+    {
+        self.is_sealed
+    }
+
+    /// Whether the era has half the steps that it may have.
+    pub fn is_half_full(&self) -> bool {
+        self.limit / 2 <= self.log.len() as u64
     }
 
     /// Opens a session, numbered one above the last.

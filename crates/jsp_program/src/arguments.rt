@@ -1,6 +1,10 @@
 //! What the command line may say.
+use clap::builder::ValueParser;
 use clap::{Arg, ArgAction, Command};
 use std::alloc::{AllocError, Global};
+
+/// The subcommand that serves clients.
+pub(crate) const LISTEN: &str = "listen";
 
 /// The id of the spaces' names.
 pub(crate) const NAMES: &str = "NAME";
@@ -8,25 +12,74 @@ pub(crate) const NAMES: &str = "NAME";
 /// The id of the flag that asks for a replay.
 pub(crate) const AUDIT: &str = "audit";
 
+/// The id of the address to listen on.
+pub(crate) const ADDRESS: &str = "ADDR";
+
+/// The id of the number of connections to serve.
+pub(crate) const LINES: &str = "lines";
+
+/// The id of the length of an era.
+pub(crate) const ERA: &str = "era";
+
+/// The most connections that one run serves, which is what it serves where it isn't told.
+pub(crate) const MOST_LINES: u64 = 1_000_000_000;
+
+/// The longest era, in steps.
+pub(crate) const LONGEST_ERA: u64 = 16_777_216;
+
+/// The length of an era where it isn't told: some 50 MB of history.
+pub(crate) const USUAL_ERA: u64 = 262_144;
+
 /// The command's arguments, with their help.
 pub(crate) fn command<'a>(alloc: Global) -> Result<Command<'a>, AllocError> {
-    let names = Arg::new(alloc, NAMES)
-        .help("The spaces: 1 to 64 names of 1 to 64 letters, digits, '_', '.' or '$'")
-        .required(true)
-        .action(ArgAction::Append)
-        .num_args(1..);
-    let audit = Arg::new(alloc, AUDIT)
-        .long(AUDIT)
-        .help("Replays the run before anything is printed, and compares it with what was sent")
-        .action(ArgAction::SetTrue);
-    let script = Command::new(alloc, "script")
-        .about("Runs the script on standard input and prints each answer")
-        .arg(audit)?
-        .arg(names)?;
     Command::new(alloc, "jsp")
         .bin_name("jsp")?
         .about("Shared spaces of typed entries: JavaSpaces, proved from bytes to bytes")
         .subcommand_required(true)
         .arg_required_else_help(false)
-        .subcommand(script)
+        .subcommand(script(alloc)?)?
+        .subcommand(listen(alloc)?)
+}
+
+fn script<'a>(alloc: Global) -> Result<Command<'a>, AllocError> {
+    let audit = Arg::new(alloc, AUDIT)
+        .long(AUDIT)
+        .help("Replays the run before anything is printed, and compares it with what was sent")
+        .action(ArgAction::SetTrue);
+    Command::new(alloc, "script")
+        .about("Runs the script on standard input and prints each answer")
+        .arg(audit)?
+        .arg(names(alloc))
+}
+
+fn listen<'a>(alloc: Global) -> Result<Command<'a>, AllocError> {
+    let lines = Arg::new(alloc, LINES)
+        .long(LINES)
+        .value_name("N")
+        .help("Ends when so many connections have ended [default: 1000000000]")
+        .value_parser(ValueParser::unsigned(1, MOST_LINES));
+    let era = Arg::new(alloc, ERA)
+        .long(ERA)
+        .value_name("STEPS")
+        .help(
+            "How many steps of its history it keeps at most, some 200 bytes each [default: 262144]",
+        )
+        .value_parser(ValueParser::unsigned(1, LONGEST_ERA));
+    let address = Arg::new(alloc, ADDRESS)
+        .help("Where to listen, as 127.0.0.1:7070; port 0 takes a free one")
+        .required(true);
+    Command::new(alloc, LISTEN)
+        .about("Serves clients over TCP, and says where once it listens")
+        .arg(lines)?
+        .arg(era)?
+        .arg(address)?
+        .arg(names(alloc))
+}
+
+fn names<'a>(alloc: Global) -> Arg<'a> {
+    Arg::new(alloc, NAMES)
+        .help("The spaces: 1 to 64 names of 1 to 64 letters, digits, '_', '.' or '$'")
+        .required(true)
+        .action(ArgAction::Append)
+        .num_args(1..)
 }

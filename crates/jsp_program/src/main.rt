@@ -1,19 +1,21 @@
 //! The command `jsp`: reads its arguments and hands the work to jsp_serve.
 //!
 //! `jsp script NAME..` runs the script on standard input over the spaces NAME.. and prints each
-//! answer; with `--audit` it replays the run first, and compares it with what was sent. It ends with
-//! status 0, also after help, with 2 where the arguments can't be used, and else with 1 after the
-//! first fault met.
+//! answer; with `--audit` it replays the run first, and compares it with what was sent. `jsp listen
+//! ADDR NAME..` serves clients over TCP. Both end with status 0, also after help, with 2 where the
+//! arguments can't be used, and else with 1 after the first fault met.
 #![tactic(auto)]
 
 mod arguments;
+mod listen;
 
-use arguments::{AUDIT, NAMES, command};
+use arguments::{AUDIT, LISTEN, NAMES, command};
 use clap::ArgMatches;
 use clap::error::{Error, ErrorKind};
 use jsp_rows::Config;
 use jsp_serve::script;
 use jsp_types::{Items, NoMemory, Text};
+use listen::listen;
 use std::alloc::Global;
 use std::io;
 use std::process::ExitCode;
@@ -28,25 +30,35 @@ fn main(rt: HostRuntime) -> io::Result<ExitCode> {
         return Ok(ExitCode::from(BAD_ARGUMENTS));
     };
     let words: Vec<String> = words.collect(alloc)?;
-    match command(alloc)?.try_get_matches_from(words.as_slice()) {
-        Ok(matches) => run(&rt, &matches),
-        Err(error) => explain(&rt, &error),
-    }
-}
-
-fn run(rt: &HostRuntime, matches: &ArgMatches<'_>) -> io::Result<ExitCode> {
-    let alloc = rt.alloc();
-    let Some(("script", given)) = matches.subcommand() else {
+    let matches = match command(alloc)?.try_get_matches_from(words.as_slice()) {
+        Ok(matches) => matches,
+        Err(error) => return explain(&rt, &error),
+    };
+    let Some((kind, given)) = matches.subcommand() else {
         return Ok(ExitCode::from(BAD_ARGUMENTS));
     };
     let Some(config) = config(alloc, given)? else {
         eprintln!(rt; "jsp: bad space name")?;
         return Ok(ExitCode::from(BAD_ARGUMENTS));
     };
+    match kind {
+        LISTEN => listen(&rt, &config, given),
+        _ => Ok(run_script(&rt, &config, given)),
+    }
+}
+
+fn run_script(rt: &HostRuntime, config: &Config, given: &ArgMatches<'_>) -> ExitCode {
     let audits = given.get_flag(AUDIT);
     let (mut input, mut out, mut faults) = (rt.stdin(), rt.stdout(), rt.stderr());
-    let ending = script(alloc, &config, audits, &mut input, &mut out, &mut faults);
-    Ok(ExitCode::from(ending.status))
+    let ending = script(
+        rt.alloc(),
+        config,
+        audits,
+        &mut input,
+        &mut out,
+        &mut faults,
+    );
+    ExitCode::from(ending.status)
 }
 
 /// The config of the names that were given, or none where they break its limits.

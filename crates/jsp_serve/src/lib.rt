@@ -12,14 +12,18 @@
 #![tactic(auto)]
 
 mod audit;
+mod connections;
 mod fault;
 mod line;
 mod lines;
 mod print;
 mod run;
+mod server;
 mod streams;
 #[cfg(test)]
 mod tests;
 mod writing;
 
+pub use jsp_floor::{Closed, RunFault};
 pub use run::{Ending, Status, script};
+pub use server::serve;

@@ -1,0 +1,16 @@
+-- Bytes that were read or written, and what is kept of them.
+use Rattle.std.specs.Prelude.{◌≡◌, ℕ, ◌+◌, ◌-◌, ◌^◌, min, List, ◌++◌}
+use Rattle.jsp_floor.specs.declared.transcript.Transcript.{Transcript}
+use Rattle.jsp_floor.specs.declared.transcript.Transcript.TheVariants as transcript
+
+-- one more, up to the greatest number
+abbrev pub saturated : ℕ → ℕ
+saturated n = min (n + 1) (2 ^ 64 - 1)
+
+abbrev pub Begins : List ℕ → List ℕ → Type 0
+Begins part whole = (rest : List ℕ) × (part ++ rest ≡ whole)
+
+-- a transcript is of these bytes, or was dropped
+abbrev pub IsTranscript : Transcript → List ℕ → Type 0
+IsTranscript (transcript.Whole bytes) all = bytes.items ≡ all
+IsTranscript transcript.Dropped all = Unit {0}

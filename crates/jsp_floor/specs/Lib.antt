@@ -1,0 +1,6 @@
+pub mod Bytes
+pub mod Seats
+pub mod Halves
+pub mod Reading
+pub mod Turns
+pub mod Closing
