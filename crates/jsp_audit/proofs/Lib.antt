@@ -3,3 +3,4 @@ pub mod Chosen
 pub mod RunSoFar
 pub mod Sequences
 pub mod Stepping
+pub mod Judging

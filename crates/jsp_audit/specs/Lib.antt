@@ -1,4 +1,5 @@
 pub mod Offering
 pub mod Changing
+pub mod Judging
 pub mod Replay
 pub mod Spaces

@@ -6,25 +6,28 @@ ghost use Rattle.jsp_model.specs.Lookup.{blocked_of};
 ghost use Rattle.jsp_model.specs.Refusals.{refusal as refusal_of};
 ghost use Rattle.jsp_model.specs.Answers.{all_said as all_said_by, said_to_ask as said_to, said_to_blocked, said_when_due as said_at_end, entries_of as entries_in, answer as answer_of, told_others as told_to_others};
 ghost use Rattle.jsp_model.specs.Limits.{IsWithinLimits};
+ghost use Rattle.jsp_audit.specs.Judging.{refusal_in};
 
 use crate::asking::ask_of;
 use crate::telling::event_of;
 use jsp_entries::{answer_with, blocked_named};
 use jsp_model::{Item, Rank, State, Step};
-use jsp_reply::Reply;
-use jsp_requests::{answer, answer_commit, refusal, refuse_under, told_others};
+use jsp_reply::{Refusal, Reply};
+use jsp_requests::{answer, answer_commit, refuse_under, told_others};
 use jsp_state::entries_of;
 use jsp_types::{Entry, Items, NoMemory};
 use jsp_wire::{Ask, Asked};
 use std::alloc::Global;
 
-/// What a step says to all sessions, in order.
+/// What a step says to all sessions, in order, where its request is refused for this reason, or isn't.
 pub(crate) fn all_said(
     alloc: Global,
     state: &State,
     step: &Step,
+    refused: Option<Refusal>,
 ) -> Result<Vec<(u64, Reply)>, NoMemory>
-    requires { IsWithinLimits state.now }
+    requires limits { IsWithinLimits state.now }
+    requires refused { refused ≡ refusal_in state.now step.now }
     ensures { IfOk result (λ v. v.items ≡ all_said_by state.now step.now) }
 {
     match step {
@@ -32,7 +35,7 @@ pub(crate) fn all_said(
             session,
             asked,
             rows,
-        } => said_to_ask(alloc, state, *session, asked, rows.as_slice()),
+        } => said_to_ask(alloc, state, *session, asked, rows.as_slice(), refused),
         Step::Fault {
             session,
             id,
@@ -63,13 +66,15 @@ fn said_to_ask(
     session: u64,
     asked: &Asked,
     rows: &[u64],
+    refused: Option<Refusal>,
 ) -> Result<Vec<(u64, Reply)>, NoMemory>
-    requires { IsWithinLimits state.now }
+    requires limits { IsWithinLimits state.now }
+    requires refused { refused ≡ refusal_of state.now session asked.now.id asked.now.ask }
     ensures { IfOk result (λ v. v.items ≡ said_to state.now session asked.now.id rows.now asked.now.ask (refusal_of state.now session asked.now.id asked.now.ask)) }
 {
     let id = asked.id();
     let ask = ask_of(asked);
-    match refusal(alloc, state, session, id, ask)? {
+    match refused {
         Some(refusal) => {
             let reply = Reply::Refused {
                 id: Some(id),

@@ -6,13 +6,15 @@ ghost use Rattle.jsp_model.specs.Answers.{said as said_by};
 ghost use Rattle.jsp_model.specs.Steps.{is_legal, next};
 ghost use Rattle.jsp_model.specs.Outboxes.{outbox_of};
 ghost use Rattle.jsp_model.specs.Limits.{IsWithinLimits};
+ghost use Rattle.jsp_audit.specs.Judging.{refusal_in as refused_in};
 ghost use Rattle.jsp_model.proofs.Outboxes.{is_hand_out};
 
 use crate::asking::keeps_its_request;
 use crate::changing::change;
-use crate::saying::said;
+use crate::judge::refusal_in;
+use crate::saying::said_judged;
 use jsp_model::{Image, State, Step};
-use jsp_reply::Said;
+use jsp_reply::{Refusal, Said};
 use jsp_state::{close, hand_out as hand_out_of, post_all, take_all_back};
 use jsp_types::NoMemory;
 use std::alloc::Global;
@@ -24,13 +26,31 @@ pub fn apply(alloc: Global, image: &mut Image, step: &Step) -> Result<(), NoMemo
     ensures err { OnErr result (image.new ≡ image.old) }
     ensures limits { IsWithinLimits image.new }
 {
+    let refused = refusal_in(alloc, image.state(), step)?;
+    apply_judged(alloc, image, step, refused)
+}
+
+/// The same where its request is refused for this reason, or isn't: for a caller that has found out
+/// already.
+pub fn apply_judged(
+    alloc: Global,
+    image: &mut Image,
+    step: &Step,
+    refused: Option<Refusal>,
+) -> Result<(), NoMemory>
+    requires legal { IsTrue (is_legal image.old step.now) }
+    requires refused { refused ≡ refused_in image.old step.now }
+    ensures ok { OnOk result (image.new ≡ next image.old step.now) }
+    ensures err { OnErr result (image.new ≡ image.old) }
+    ensures limits { IsWithinLimits image.new }
+{
     if let Step::HandOut { session, count } = step {
         let _answers = hand_out(alloc, image, *session, *count as usize)?;
         return Ok(());
     }
     keeps_its_request(step);
-    let sayings = said(alloc, image, step)?;
-    make(alloc, &mut image.state, step, sayings)
+    let sayings = said_judged(alloc, image, step, refused)?;
+    make(alloc, &mut image.state, step, refused, sayings)
 }
 
 /// Posts what a step says and makes its change. Where the change is refused memory, what was posted
@@ -39,17 +59,19 @@ fn make(
     alloc: Global,
     state: &mut State,
     step: &Step,
+    refused: Option<Refusal>,
     sayings: Vec<(u64, Said)>,
 ) -> Result<(), NoMemory>
     requires limits { IsWithinLimits state.old }
     requires legal { is_legal state.old step.now ≡ true }
+    requires refused { refused ≡ refused_in state.old step.now }
     requires sayings { sayings.items ≡ said_by state.old step.now }
     requires no_hand_out { is_hand_out step.now ≡ false }
     ensures ok { OnOk result (state.new ≡ next state.old step.now) }
     ensures err { OnErr result (state.new ≡ state.old) }
 {
     let posts = post_all(alloc, &mut state.outboxes, sayings)?;
-    if let Err(e) = change(alloc, state, step) {
+    if let Err(e) = change(alloc, state, step, refused) {
         take_all_back(&mut state.outboxes, posts);
         return Err(e);
     }

@@ -5,22 +5,31 @@ ghost use Rattle.jsp_model.specs.Requests.{rows_asked};
 ghost use Rattle.jsp_model.specs.Steps.{change as changed, after_ask, has_its_rows};
 ghost use Rattle.jsp_model.specs.Limits.{IsWithinLimits};
 ghost use Rattle.jsp_audit.specs.Changing.{has_its_choice, at_time, after_fault, decided};
+ghost use Rattle.jsp_audit.specs.Judging.{refusal_in};
 
 use crate::asking::ask_of;
 use jsp_entries::{grant, unblock};
+use jsp_grants::tell;
 use jsp_model::{LAST_TIME, State, Step};
 use jsp_reply::Refusal;
-use jsp_requests::{accept, refusal, tell};
+use jsp_requests::accept;
 use jsp_state::{close, open};
 use jsp_transactions::{abort, cast_vote, commit, remove};
 use jsp_types::NoMemory;
 use jsp_wire::Asked;
 use std::alloc::Global;
 
-/// Makes the change of a step, whole or not at all. What waits to be handed out stays.
-pub(crate) fn change(alloc: Global, state: &mut State, step: &Step) -> Result<(), NoMemory>
+/// Makes the change of a step, whole or not at all, where its request is refused for this reason, or
+/// isn't. What waits to be handed out stays.
+pub(crate) fn change(
+    alloc: Global,
+    state: &mut State,
+    step: &Step,
+    refused: Option<Refusal>,
+) -> Result<(), NoMemory>
     requires limits { IsWithinLimits state.old }
     requires choice { has_its_choice state.old step.now ≡ true }
+    requires refused { refused ≡ refusal_in state.old step.now }
     ensures ok { OnOk result (state.new ≡ changed state.old step.now) }
     ensures err { OnErr result (state.new ≡ state.old) }
 {
@@ -32,7 +41,7 @@ pub(crate) fn change(alloc: Global, state: &mut State, step: &Step) -> Result<()
             session,
             asked,
             rows,
-        } => return ask(alloc, state, *session, asked, rows.as_slice()),
+        } => return ask(alloc, state, *session, asked, rows.as_slice(), refused),
         Step::Fault {
             session,
             refusal,
@@ -66,15 +75,17 @@ fn ask(
     session: u64,
     asked: &Asked,
     rows: &[u64],
+    refused: Option<Refusal>,
 ) -> Result<(), NoMemory>
     requires limits { IsWithinLimits state.old }
     requires choice { has_its_rows state.old session asked.now.id rows.now (refusal_of state.old session asked.now.id asked.now.ask) (rows_asked asked.now.ask) ≡ true }
+    requires refused { refused ≡ refusal_of state.old session asked.now.id asked.now.ask }
     ensures ok { OnOk result (state.new ≡ after_ask state.old session asked.now.id rows.now asked.now.ask (refusal_of state.old session asked.now.id asked.now.ask)) }
     ensures err { OnErr result (state.new ≡ state.old) }
 {
     let id = asked.id();
     let ask = ask_of(asked);
-    match refusal(alloc, state, session, id, ask)? {
+    match refused {
         Some(_) => Ok(()),
         None => accept(alloc, state, session, id, ask, rows),
     }

@@ -5,11 +5,13 @@ ghost use Rattle.jsp_reply.specs.Limits.{is_within_limits};
 ghost use Rattle.jsp_model.specs.Lookup.{is_open as has_open};
 ghost use Rattle.jsp_model.specs.Answers.{Saying, said as said_by};
 ghost use Rattle.jsp_model.specs.Steps.{is_legal};
+ghost use Rattle.jsp_audit.specs.Judging.{refusal_in as refused_in};
 
 use crate::answering::all_said;
 use crate::asking::keeps_its_request;
+use crate::judge::refusal_in;
 use jsp_model::{Image, State, Step};
-use jsp_reply::{Reply, Said};
+use jsp_reply::{Refusal, Reply, Said};
 use jsp_state::is_open;
 use jsp_types::NoMemory;
 use std::alloc::Global;
@@ -20,9 +22,24 @@ pub fn said(alloc: Global, image: &Image, step: &Step) -> Result<Vec<(u64, Said)
     requires { IsTrue (is_legal image.now step.now) }
     ensures { IfOk result (λ v. v.items ≡ said_by image.now step.now) }
 {
+    let refused = refusal_in(alloc, image.state(), step)?;
+    said_judged(alloc, image, step, refused)
+}
+
+/// The same where its request is refused for this reason, or isn't.
+pub(crate) fn said_judged(
+    alloc: Global,
+    image: &Image,
+    step: &Step,
+    refused: Option<Refusal>,
+) -> Result<Vec<(u64, Said)>, NoMemory>
+    requires legal { IsTrue (is_legal image.now step.now) }
+    requires refused { refused ≡ refused_in image.now step.now }
+    ensures { IfOk result (λ v. v.items ≡ said_by image.now step.now) }
+{
     keeps_its_request(step);
     let state = image.state();
-    let mut replies = all_said(alloc, state, step)?;
+    let mut replies = all_said(alloc, state, step, refused)?;
     drop_unheard(state, &mut replies);
     within_limits(alloc, replies)
 }

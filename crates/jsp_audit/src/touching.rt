@@ -34,7 +34,7 @@ pub fn are_quiet(state: &State, spaces: &[u64]) -> bool
 }
 
 /// The spaces that a request touches.
-pub(crate) fn ask_touches(alloc: Global, state: &State, ask: &Ask) -> Result<Vec<u64>, NoMemory>
+pub fn ask_touches(alloc: Global, state: &State, ask: &Ask) -> Result<Vec<u64>, NoMemory>
     ensures { IfOk result (λ v. v.items ≡ touched_by_ask state.now ask.now) }
 {
     match ask {

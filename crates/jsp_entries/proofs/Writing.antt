@@ -1,8 +1,10 @@
 -- A write, once its rows are made and its space has joined.
-use Rattle.std.proofs.Common.{◌≡◌, ℕ, ◌+◌, List, Option, ap, sym, ◌∙◌}
+use Rattle.std.proofs.Common.{◌≡◌, ℕ, ◌+◌, ◌-◌, ◌≤◌, ◌==◌, Bool, true, false, not, nat_lt, List, Option, length, filter, refl, ap, sym, ◌∙◌, arith, le-ltb}
+use Rattle.std.proofs.lemmas.List.Filters.{length-filter_both}
 use Rattle.jsp_model.specs.declared.state.State.{State}
 use Rattle.jsp_model.specs.declared.state.Row.{Row}
 use Rattle.jsp_model.specs.Requests.{WriteRequest, caller_of, place_of}
+use Rattle.jsp_model.specs.Refusals.{rows_in}
 use Rattle.jsp_model.specs.Changes.{join, write}
 use Rattle.jsp_transactions.specs.Writing.{new_rows, with_rows}
 use Rattle.jsp_transactions.proofs.Writing.{rows_are_written, new_rows_once_joined, length-rows_from}
@@ -20,3 +22,11 @@ written st w caller space rows joined new by at made is so =
     let same : rows ≡ new_rows (once_joined st w) w = made ∙ sym (new_rows_once_joined st w (caller_of w.txn) (place_of st w.space)) in
     so ∙ (ap (λ j. with_new_rows j caller rows) here ∙ (ap (λ c. with_new_rows (once_joined st w) c rows) by ∙ (ap (with_new_rows (once_joined st w) (caller_of w.txn)) same
     ∙ (rows_added (once_joined st w) w ∙ sym (rows_are_written (once_joined st w) w)))))
+
+few_in : (st : State) (p : ℕ) → rows_in st p ≤ length st.rows
+few_in st p = omega (arith, length-filter_both (λ (r : Row). r.space == p) (λ r. not (r.space == p)) (λ r. refl) st.rows)
+
+-- where the rows of all spaces leave room, those of one do
+pub room_left : (st : State) (p most n : ℕ) → n ≤ most → length st.rows ≤ most - n → nat_lt most (rows_in st p + n) ≡ false
+room_left st p most n fits room =
+    le-ltb most (rows_in st p + n) (omega (arith, few_in st p, fits, room))

@@ -74,12 +74,17 @@ fn has_bad_lease(asked: &WriteAsked) -> bool
     granted(asked.lease).is_none()
 }
 
-/// Whether the space has no room for so many rows more.
+/// Whether the space has no room for so many rows more. Its own rows are counted only where those of
+/// all spaces together would be too many.
 fn is_full(state: &State, space: u64, count: usize) -> bool
     requires { count ≤ 64 }
     ensures { result ≡ nat_lt MOST_ROWS (count_in state.now space + count) }
 {
-    MOST_ROWS - count < rows_in(state, space)
+    let room = MOST_ROWS - count;
+    if state.rows.as_slice().len() <= room {
+        return false;
+    }
+    room < rows_in(state, space)
 }
 
 /// Writes the entries, all or none: each is a row of its own, also an equal one (JavaSpaces). The

@@ -1,3 +1,1 @@
-mod Writing
-mod Turning
 mod Ending

@@ -1,18 +1,16 @@
 //! A house in threads: the lines of a door, and the settling worker.
 ghost use Rattle.std.specs.Prelude.{◌≡◌, ◌≤◌, ◌+◌, ◌^◌, IfOk};
 ghost use Rattle.jsp_model.specs.Lookup.{empty};
-ghost use Rattle.jsp_floor.specs.Closing.{Closes};
-ghost use Rattle.jsp_floor.specs.Seats.{IsSeated};
+ghost use Rattle.jsp_closing.specs.Closing.{Closes};
+ghost use Rattle.jsp_line.specs.Seats.{IsSeated};
 ghost use denote.Param.Send.{IsSync, IsSend};
 
-use crate::closed::{Closed, LineReport, RunFault, close};
+use crate::door::{Door, Knock};
 use crate::end::end;
-use crate::floor::{Floor, LINES};
-use crate::gate::{Clock, Door, Gate, Knock};
-use crate::half::Health;
-use crate::line::{LineDone, serve_line};
-use crate::settle::settle_worker;
+use crate::idle::Idle;
+use jsp_closing::{Closed, LineReport, RunFault, close};
 use jsp_kept::{Kept, Seat};
+use jsp_line::{Clock, Floor, Gate, Health, LINES, LineDone, Shared};
 use jsp_model::{Config, House, Why};
 use std::alloc::Global;
 use std::io::{Read, Write};
@@ -149,140 +147,129 @@ fn welcome<H: House, A: Ledger, O: Ledger, R: Drop, W: Drop, D: Door<R, W>, T: W
     }
 }
 
-// Serves a line that has come in.
-fn serve_caller<
-    H: House + Send,
-    A: Ledger + Send + Sync,
-    O: Ledger + Send + Sync,
-    R: Read + Send + Drop,
-    W: Write + Send + Drop,
-    G: Gate + Sync,
-    C: Clock + Sync,
-    T: Threads + Wait + Sync,
->(
-    rt: &T,
-    alloc: Global,
-    floor: &Floor<H, A, O>,
-    gate: &G,
-    clock: &C,
-    caller: Caller<A, O, R, W>,
-    served: &mut Served,
-) {
-    let Caller {
-        reader,
-        writer,
-        seat,
-    } = caller;
-    let done = serve_line(rt, alloc, floor, gate, clock, reader, writer, seat, READS);
-    served.add_line(done);
+// What lines are served with, the door that they come by, and who waits at it.
+#[derive(Drop)]
+struct Server<'a, H: House, A: Ledger, O: Ledger, D, G, C, T> {
+    shared: Shared<'a, H, A, O, G, C, T>,
+    door: Mutex<D>,
+    idle: Idle,
 }
 
-// Serves a line, and then further ones as they come.
-fn serve_lines<
+impl<
     H: House + Send,
     A: Ledger + Send + Sync,
     O: Ledger + Send + Sync,
-    R: Read + Send + Drop,
-    W: Write + Send + Drop,
-    D: Door<R, W> + Send,
-    G: Gate + Sync,
-    C: Clock + Sync,
-    T: Threads + Wait + Sync,
->(
-    rt: &T,
-    alloc: Global,
-    floor: &Floor<H, A, O>,
-    door: &Mutex<D>,
-    gate: &G,
-    clock: &C,
-    caller: Caller<A, O, R, W>,
-) -> Served {
-    let mut served = Served::new(alloc);
-    serve_caller(rt, alloc, floor, gate, clock, caller, &mut served);
-    for _ in rt.forever() {
-        match welcome(rt, floor, door) {
-            Guest::Line(caller) => {
-                serve_caller(rt, alloc, floor, gate, clock, caller, &mut served);
-            }
-            Guest::Refused(why) => served.fail(fault_of(why)),
-            Guest::Closed => break,
-            Guest::Failed => {
-                served.fail(RunFault::Spawn);
-                break;
-            }
-        }
-    }
-    served
-}
-
-// Serves all lines of the door, and settles meanwhile.
-fn serve_all<
-    H: House + Send,
-    A: Ledger + Send + Sync,
-    O: Ledger + Send + Sync,
-    R: Read + Send + Drop,
-    W: Write + Send + Drop,
-    D: Door<R, W> + Send,
+    D: Send,
     G: Gate + Sync,
     C: Clock + Sync,
     T: Threads + Wait + time::Clock + Sync,
->(rt: &T, alloc: Global, floor: &Floor<H, A, O>, door: &Mutex<D>, gate: &G, clock: &C) -> Served {
-    thread::scope(
-        thread::scope_env(),
-        rt,
-        |scope| -> Served
-            requires { IsSync T.row × IsSync G.row × IsSync C.row × IsSend D.row × IsSend H.row × IsSend A.row × IsSync A.row × IsSend O.row × IsSync O.row × IsSend R.row × IsSend W.row }
-        {
-            let mut served = Served::new(alloc);
-            let mut running = Vec::new(alloc);
-            let settling = match scope.spawn(move || settle_worker(rt, floor, clock)) {
-                Ok(settling) => settling,
-                Err(_) => {
+> Server<'_, H, A, O, D, G, C, T> {
+    // Serves a line that has come in.
+    fn serve_caller<R: Read + Send + Drop, W: Write + Send + Drop>(
+        &self,
+        caller: Caller<A, O, R, W>,
+        served: &mut Served,
+    ) {
+        let Caller {
+            reader,
+            writer,
+            seat,
+        } = caller;
+        let done = self.shared.serve_line(reader, writer, seat, READS);
+        served.add_line(done);
+    }
+
+    // Serves a line, and then further ones as they come.
+    fn serve_lines<R: Read + Send + Drop, W: Write + Send + Drop>(
+        &self,
+        caller: Caller<A, O, R, W>,
+    ) -> Served
+    where
+        D: Door<R, W>,
+    {
+        let mut served = Served::new(self.shared.alloc);
+        self.serve_caller(caller, &mut served);
+        for _ in self.shared.rt.forever() {
+            self.idle.enter(self.shared.rt);
+            let guest = welcome(self.shared.rt, self.shared.floor, &self.door);
+            self.idle.leave(self.shared.rt);
+            match guest {
+                Guest::Line(caller) => self.serve_caller(caller, &mut served),
+                Guest::Refused(why) => served.fail(fault_of(why)),
+                Guest::Closed => break,
+                Guest::Failed => {
                     served.fail(RunFault::Spawn);
-                    return served;
-                }
-            };
-            for _ in rt.forever() {
-                if running.len() >= LINES {
                     break;
                 }
-                if running.reserve(1).is_err() {
-                    served.fail(RunFault::NoMemory);
-                    break;
-                }
-                let caller = match welcome(rt, floor, door) {
-                    Guest::Line(caller) => caller,
-                    Guest::Refused(why) => {
-                        served.fail(fault_of(why));
-                        continue;
-                    }
-                    Guest::Closed => break,
-                    Guest::Failed => {
-                        served.fail(RunFault::Spawn);
-                        break;
-                    }
-                };
-                let started = scope.spawn(
-                    move || -> Served
-                        requires { IsSync T.row × IsSync G.row × IsSync C.row × IsSend D.row × IsSend H.row × IsSend A.row × IsSync A.row × IsSend O.row × IsSync O.row × IsSend R.row × IsSend W.row }
-                    { serve_lines(rt, alloc, floor, door, gate, clock, caller) },
-                );
-                match started {
-                    Ok(thread) => running.push_reserved(thread),
+            }
+        }
+        served
+    }
+
+    // Serves all lines of the door, and settles meanwhile. A thread is started for a line that comes while
+    // no other thread waits for one.
+    fn serve_all<R: Read + Send + Drop, W: Write + Send + Drop>(&self) -> Served
+    where
+        D: Door<R, W>,
+    {
+        thread::scope(
+            thread::scope_env(),
+            self.shared.rt,
+            |scope| -> Served
+                requires { IsSync T.row × IsSync G.row × IsSync C.row × IsSend D.row × IsSend H.row × IsSend A.row × IsSync A.row × IsSend O.row × IsSync O.row × IsSend R.row × IsSend W.row }
+            {
+                let mut served = Served::new(self.shared.alloc);
+                let mut running = Vec::new(self.shared.alloc);
+                let settling = match scope.spawn(move || self.shared.settle_worker()) {
+                    Ok(settling) => settling,
                     Err(_) => {
                         served.fail(RunFault::Spawn);
+                        return served;
+                    }
+                };
+                for _ in self.shared.rt.forever() {
+                    if running.len() >= LINES {
                         break;
                     }
+                    if running.reserve(1).is_err() {
+                        served.fail(RunFault::NoMemory);
+                        break;
+                    }
+                    self.idle.wait_for_none(self.shared.rt);
+                    let caller = match welcome(self.shared.rt, self.shared.floor, &self.door) {
+                        Guest::Line(caller) => caller,
+                        Guest::Refused(why) => {
+                            served.fail(fault_of(why));
+                            continue;
+                        }
+                        Guest::Closed => break,
+                        Guest::Failed => {
+                            served.fail(RunFault::Spawn);
+                            break;
+                        }
+                    };
+                    let started = scope.spawn(
+                        move || -> Served
+                            requires { IsSync T.row × IsSync G.row × IsSync C.row × IsSend D.row × IsSend H.row × IsSend A.row × IsSync A.row × IsSend O.row × IsSync O.row × IsSend R.row × IsSend W.row }
+                        { self.serve_lines(caller) },
+                    );
+                    match started {
+                        Ok(thread) => running.push_reserved(thread),
+                        Err(_) => {
+                            served.fail(RunFault::Spawn);
+                            break;
+                        }
+                    }
                 }
-            }
-            for thread in running {
-                served.add_all(thread.join(rt));
-            }
-            floor.end(rt);
-            served.stop(settling.join(rt));
-            served
-        },
-    )
+                for thread in running {
+                    served.add_all(thread.join(self.shared.rt));
+                }
+                self.shared.floor.end(self.shared.rt);
+                served.stop(settling.join(self.shared.rt));
+                served
+            },
+        )
+    }
 }
 
 // As `run_house`, with the ledgers of the seats.
@@ -320,12 +307,23 @@ fn run_in<
     let Ok(floor) = Floor::new(alloc, kept) else {
         return Err(RunFault::NoMemory);
     };
-    let door = Mutex::new(door);
-    let Served { reports, fault } = serve_all(rt, alloc, &floor, &door, gate, clock);
+    let server = Server {
+        shared: Shared {
+            rt: &*rt,
+            alloc,
+            floor: &floor,
+            gate: &*gate,
+            clock: &*clock,
+        },
+        door: Mutex::new(door),
+        idle: Idle::new(),
+    };
+    let Served { reports, fault } = server.serve_all::<R, W>();
+    drop(server);
     if let Some(fault) = fault {
         return Err(fault);
     }
-    match end(rt, floor.into_kept(), config) {
+    match end(rt, floor.into_kept()) {
         Ok(era) => close(alloc, config, era, reports),
         Err(why) => Err(fault_of(why)),
     }

@@ -13,36 +13,18 @@ use Rattle.jsp_model.specs.declared.house.Input.TheVariants as input
 use Rattle.jsp_model.specs.declared.house.Stopped.{Stopped}
 use Rattle.jsp_model.specs.Lookup.{contains, is_open}
 use Rattle.jsp_model.specs.Quiet.{is_quiet}
-use Rattle.jsp_model.specs.House.{Acts, Makes, OpensNone, KeepsRoom, accepts, acted, was_done, own_of, shuts}
+use Rattle.jsp_model.specs.House.{Leaves, touched, Makes, OpensNone, KeepsRoom, accepts, acted, was_done, own_of, shuts}
 use Rattle.jsp_model.proofs.Joining.{Makes-none}
 use Rattle.jsp_kept.specs.History.{History, IsKept, Beside, IsWhole, limit_of}
 use Rattle.jsp_kept.specs.Calls.{KeepsEra, KeepsAsks, KeepsOuts}
+use Rattle.jsp_kept.specs.Eras.{Performs}
+use Rattle.jsp_kept.proofs.Growing.{performs_in_era}
 use Rattle.jsp_kept.proofs.LastSession.{last_by}
 use Rattle.jsp_kept.proofs.Weights.{shuts_append}
 use Rattle.jsp_kept.proofs.Owns.{IsUncounted, none_counted, undone_own}
-use Rattle.jsp_kept.proofs.Keeping.{Grows, StaysWithin, KeepsShares, kept_on, last_on, whole_on}
+use Rattle.jsp_kept.proofs.Keeping.{CountsUp, StaysWithin, KeepsShares, kept_on, last_on, whole_on}
 
 -- ---- an act that isn't made
-
-or_second : (b c : Bool) → c ≡ true → (b || c) ≡ true
-or_second true c h = refl
-or_second false c h = h
-
-all_owed : (st : State) (owed xs : List ℕ) → ((p : ℕ) → contains xs p ≡ true → contains owed p ≡ true) → list_all (λ p. is_quiet st p || contains owed p) xs ≡ true
-all_owed st owed [] h = refl
-all_owed st owed (x ∷ xs) h =
-    and_from (is_quiet st x || contains owed x) (list_all (λ p. is_quiet st p || contains owed p) xs)
-    (or_second (is_quiet st x) (contains owed x) (h x (rw (eq-eqb x x refl) refl)))
-    (all_owed st owed xs (λ p m. h p (or_second (x == p) (contains xs p) m)))
-
--- nothing changes
-pub idle_acts : (st : State) (debt : List ℕ) (log : List Step) (x : Input) (e : Stopped) → e.done ≡ false → Acts st st debt debt log log x (Err e)
-idle_acts st debt log x e not_done = record {
-  steps = [];
-  makes = Makes-none st log;
-  own = sym (undone_own st x (Err e) not_done);
-  leaves = all_owed st debt debt (λ p m. m);
-}
 
 pub undone_open : (s : ℕ) (r : Result Unit Stopped) (e : Stopped) → r ≡ Err e → OpensNone (input.Open s) r → e.done ≡ false
 undone_open s r e is opens = subst (λ (w : Result Unit Stopped). OpensNone (input.Open s) w) is opens
@@ -65,7 +47,7 @@ pub opens_only : (st : State) (s : ℕ) (r : Result Unit Stopped) → accepts st
 opens_only st s r legal done = rw (legal, done) refl
 
 pub grows_by_open : (h k : History) (s : ℕ) → IsKept h → s ≡ h.state.last_session + 1
-    → k.asked ≡ h.asked ++ 0 ∷ [] → k.asks_book ≡ h.asks_book → k.taken ≡ h.taken ++ 0 ∷ [] → k.outs_book ≡ h.outs_book → Grows h k (step.Open s ∷ [])
+    → k.asked ≡ h.asked ++ 0 ∷ [] → k.asks_book ≡ h.asks_book → k.taken ≡ h.taken ++ 0 ∷ [] → k.outs_book ≡ h.outs_book → CountsUp h k (step.Open s ∷ [])
 grows_by_open h k s was is asked asks taken outs = record {
   asked = λ i. rw asked (get_zero h.asked i ∙ sym (add-zero _));
   taken = λ i. rw taken (get_zero h.taken i ∙ sym (add-zero _));
@@ -76,31 +58,38 @@ grows_by_open h k s was is asked asks taken outs = record {
 }
 
 pub whole_begun : (h k : History) (b c : Beside) (steps : List Step) (s : ℕ) → IsWhole h b → KeepsEra h k → Makes h.state k.state h.steps k.steps steps
-    → own_of steps ≡ step.Open s ∷ [] → Grows h k (step.Open s ∷ []) → s ≡ h.state.last_session + 1 → StaysWithin h k b c
+    → own_of steps ≡ step.Open s ∷ [] → CountsUp h k (step.Open s ∷ []) → s ≡ h.state.last_session + 1 → StaysWithin h k b c
     → c.asks_parts + 1 ≡ b.asks_parts → c.outs_parts + 1 ≡ b.outs_parts → c.asks_amount + 0 ≡ b.asks_amount → c.outs_amount + 0 ≡ b.outs_amount
     → c.asks_sum ≡ k.asks_book → c.outs_sum ≡ k.outs_book → IsWhole k c
 whole_begun h k b c steps s was era makes own grows is within asks_parts outs_parts asks_amount outs_amount asks_sum outs_sum =
     let last : k.state.last_session ≡ s = last_on h k steps makes ∙ ap (last_by h.state.last_session) own in
     record {
-      kept = kept_on h k steps was.kept era makes (subst (Grows h k) (sym own) grows) within.within;
+      kept = kept_on h k steps was.kept era makes (subst (CountsUp h k) (sym own) grows) within.within;
       asks_sum = asks_sum;
       outs_sum = outs_sum;
       asks_parts = omega (arith, was.asks_parts, asks_parts, last, is);
       asks_amount = omega (arith, was.asks_amount, asks_amount);
       outs_parts = omega (arith, was.outs_parts, outs_parts, last, is);
       outs_amount = omega (arith, was.outs_amount, outs_amount);
+      some = within.some;
       era = within.era;
       limit = within.limit;
       bound = within.bound;
       room = within.room;
     }
 
+pub performs_begun : (h k : History) (own steps : List Step) (s : ℕ) (r : Result Unit Stopped) → IsKept h → KeepsEra h k → Makes h.state k.state h.steps k.steps steps → own_of steps ≡ step.Open s ∷ [] → s ≡ h.state.last_session + 1
+    → k.asked ≡ h.asked ++ 0 ∷ [] → k.asks_book ≡ h.asks_book → k.taken ≡ h.taken ++ 0 ∷ [] → k.outs_book ≡ h.outs_book
+    → own_of steps ≡ own → Leaves r k.state (touched h.state steps ++ h.debt) k.debt → Performs h k own r
+performs_begun h k own steps s r was era makes opens is asked asks taken outs is_own left =
+    performs_in_era h k own steps r era makes (subst (CountsUp h k) (sym opens) (grows_by_open h k s was is asked asks taken outs)) is_own left
+
 -- ---- a session is closed
 
 pub shuts_one : (st : State) (s : ℕ) → is_open st s ≡ true → shuts st s ≡ step.Shut s ∷ []
 shuts_one st s h = rw h refl
 
-shut_counts : (s : ℕ) (h k : History) → IsKept h → KeepsAsks h k → KeepsOuts h k → Grows h k (step.Shut s ∷ [])
+shut_counts : (s : ℕ) (h k : History) → IsKept h → KeepsAsks h k → KeepsOuts h k → CountsUp h k (step.Shut s ∷ [])
 shut_counts s h k was asks outs = record {
   asked = λ i. rw asks.asked (sym (add-zero _));
   taken = λ i. rw outs.taken (sym (add-zero _));
@@ -119,5 +108,5 @@ whole_shut h k b c s was era opened makes asks outs room limit bound shares asks
     let more : limit_of k ≡ limit_of h + 1 = rw (makes_one.log, era.era) (omega (arith, shuts_append h.steps (step.Shut s ∷ []))) in
     let longer : length k.steps ≡ length h.steps + 1 = rw makes_one.log (omega (arith, length-append h.steps (step.Shut s ∷ []))) in
     whole_on h k b c (step.Shut s ∷ []) was era makes_one (shut_counts s h k was.kept asks outs) refl
-    (record { within = omega (arith, longer, more, was.kept.within); limit = omega (arith, limit, more, was.limit); bound = bound; era = rw era.era was.era; room = room was.room })
+    (record { within = omega (arith, longer, more, was.kept.within); limit = omega (arith, limit, more, was.limit); bound = bound; some = rw era.era was.some; era = rw era.era was.era; room = room was.room })
     shares asks_sum outs_sum

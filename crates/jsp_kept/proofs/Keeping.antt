@@ -10,6 +10,8 @@ use Rattle.jsp_model.specs.Lookup.{empty}
 use Rattle.jsp_model.specs.Runs.{IsRun, state_after}
 use Rattle.jsp_model.specs.House.{own_of, Makes, KeepsRoom, KeepsBound, IsWithin}
 use Rattle.jsp_model.proofs.Joining.{IsRun-append, state_after-append}
+use Rattle.jsp_quiet.specs.Steady.{IsSteady}
+use Rattle.jsp_quiet.proofs.Steady.{steady_run}
 use Rattle.jsp_kept.specs.Counts.{asks_of, outs_of, shuts_of}
 use Rattle.jsp_kept.specs.History.{History, IsKept, Beside, IsWhole, limit_of}
 use Rattle.jsp_kept.specs.Calls.{KeepsEra, KeepsAsks, KeepsOuts, raised}
@@ -18,7 +20,7 @@ use Rattle.jsp_kept.proofs.Weights.{asks_own, outs_own, shuts_own, asks_append, 
 use Rattle.jsp_kept.proofs.Owns.{IsUncounted, CountsAsk, CountsOut}
 
 -- the counts go up by what the own steps count
-pub record Grows (h k : History) (own : List Step) : Type 0 where
+pub record CountsUp (h k : History) (own : List Step) : Type 0 where
   pub asked : (i : ℕ) → get_or k.asked i 0 ≡ get_or h.asked i 0 + asks_of (i + 1) own
   pub taken : (i : ℕ) → get_or k.taken i 0 ≡ get_or h.taken i 0 + outs_of (i + 1) own
   pub asks_book : k.asks_book ≡ sum k.asked
@@ -29,11 +31,12 @@ pub record Grows (h k : History) (own : List Step) : Type 0 where
 pub last_on : (h k : History) (steps : List Step) → Makes h.state k.state h.steps k.steps steps → k.state.last_session ≡ last_by h.state.last_session (own_of steps)
 last_on h k steps makes = ap (λ (w : State). w.last_session) (sym makes.view) ∙ last_run h.state steps
 
-pub kept_on : (h k : History) (steps : List Step) → IsKept h → KeepsEra h k → Makes h.state k.state h.steps k.steps steps → Grows h k (own_of steps) → length k.steps ≤ limit_of k → IsKept k
+pub kept_on : (h k : History) (steps : List Step) → IsKept h → KeepsEra h k → Makes h.state k.state h.steps k.steps steps → CountsUp h k (own_of steps) → length k.steps ≤ limit_of k → IsKept k
 kept_on h k steps was era makes grows within =
     let last = last_on h k steps makes in
     record {
       run = rw (makes.log, era.base) (IsRun-append h.base h.steps steps was.run (subst (λ (w : State). IsRun w steps) was.state makes.run));
+      steady = subst IsSteady makes.view (steady_run h.state steps makes.run was.steady);
       state = rw (makes.log, era.base) (sym makes.view ∙ (ap (λ w. state_after w steps) was.state ∙ sym (state_after-append h.base h.steps steps)));
       asked = λ i. rw (makes.log, era.asked_before) (omega (arith, grows.asked i, was.asked i, asks_append (i + 1) h.steps steps, asks_own (i + 1) steps));
       taken = λ i. rw (makes.log, era.taken_before) (omega (arith, grows.taken i, was.taken i, outs_append (i + 1) h.steps steps, outs_own (i + 1) steps));
@@ -47,7 +50,7 @@ kept_on h k steps was era makes grows within =
 
 -- ---- counts
 
-pub grows_quietly : (h k : History) (own : List Step) → IsKept h → IsUncounted own → KeepsAsks h k → KeepsOuts h k → Grows h k own
+pub grows_quietly : (h k : History) (own : List Step) → IsKept h → IsUncounted own → KeepsAsks h k → KeepsOuts h k → CountsUp h k own
 grows_quietly h k own was none asks outs = record {
   asked = λ i. rw asks.asked (omega (arith, none.asks (i + 1)));
   taken = λ i. rw outs.taken (omega (arith, none.outs (i + 1)));
@@ -67,7 +70,7 @@ raised_length : (xs : List ℕ) (i by : ℕ) → length (raised xs i by) ≡ len
 raised_length xs i by = length-set xs i (get_or xs i 0 + by)
 
 pub grows_by_ask : (h k : History) (own : List Step) (s by : ℕ) → IsKept h → CountsAsk own s by → 0 < s → s - 1 < length h.asked
-    → k.asked ≡ raised h.asked (s - 1) by → k.asks_book ≡ h.asks_book + by → KeepsOuts h k → Grows h k own
+    → k.asked ≡ raised h.asked (s - 1) by → k.asks_book ≡ h.asks_book + by → KeepsOuts h k → CountsUp h k own
 grows_by_ask h k own s by was one above within asked book outs = record {
   asked = λ i. rw asked (raised_get h.asked s by i above within ∙ ap (λ n. get_or h.asked i 0 + n) (sym (one.asks (i + 1))));
   taken = λ i. rw outs.taken (omega (arith, one.outs (i + 1)));
@@ -78,7 +81,7 @@ grows_by_ask h k own s by was one above within asked book outs = record {
 }
 
 pub grows_by_out : (h k : History) (own : List Step) (s by : ℕ) → IsKept h → CountsOut own s by → 0 < s → s - 1 < length h.taken
-    → k.taken ≡ raised h.taken (s - 1) by → k.outs_book ≡ h.outs_book + by → KeepsAsks h k → Grows h k own
+    → k.taken ≡ raised h.taken (s - 1) by → k.outs_book ≡ h.outs_book + by → KeepsAsks h k → CountsUp h k own
 grows_by_out h k own s by was one above within taken book asks = record {
   asked = λ i. rw asks.asked (omega (arith, one.asks (i + 1)));
   taken = λ i. rw taken (raised_get h.taken s by i above within ∙ ap (λ n. get_or h.taken i 0 + n) (sym (one.outs (i + 1))));
@@ -104,6 +107,7 @@ pub record StaysWithin (h k : History) (b c : Beside) : Type 0 where
   pub within : length k.steps ≤ limit_of k
   pub limit : c.limit ≡ limit_of k
   pub bound : c.bound ≡ Some c.limit
+  pub some : 1 ≤ k.era
   pub era : k.era ≤ 16777216
   pub room : length k.state.sessions ≤ c.spare
 
@@ -119,12 +123,13 @@ stays_within h k b c steps before after was era makes none room bound is_before 
       within = omega (arith, now, is_after, was.limit, limit);
       limit = same ∙ (was.limit ∙ sym limit);
       bound = bound.same ∙ (was.bound ∙ ap (λ n. Some n) (sym same));
+      some = rw era.era was.some;
       era = rw era.era was.era;
       room = room was.room;
     }
 
 -- no session is opened
-pub whole_on : (h k : History) (b c : Beside) (steps : List Step) → IsWhole h b → KeepsEra h k → Makes h.state k.state h.steps k.steps steps → Grows h k (own_of steps)
+pub whole_on : (h k : History) (b c : Beside) (steps : List Step) → IsWhole h b → KeepsEra h k → Makes h.state k.state h.steps k.steps steps → CountsUp h k (own_of steps)
     → last_by h.state.last_session (own_of steps) ≡ h.state.last_session → StaysWithin h k b c → KeepsShares b c
     → c.asks_sum ≡ k.asks_book → c.outs_sum ≡ k.outs_book → IsWhole k c
 whole_on h k b c steps was era makes grows same within shares asks_sum outs_sum =
@@ -137,6 +142,7 @@ whole_on h k b c steps was era makes grows same within shares asks_sum outs_sum 
       asks_amount = shares.asks_amount ∙ was.asks_amount;
       outs_parts = rw (shares.outs_parts, last) was.outs_parts;
       outs_amount = shares.outs_amount ∙ was.outs_amount;
+      some = within.some;
       era = within.era;
       limit = within.limit;
       bound = within.bound;

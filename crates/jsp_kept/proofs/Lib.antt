@@ -4,3 +4,8 @@ mod Owns
 mod Keeping
 mod Counting
 mod Begun
+mod Beginning
+mod Growing
+mod Ending
+mod Turning
+mod Passing

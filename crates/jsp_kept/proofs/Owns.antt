@@ -1,8 +1,8 @@
 -- What the own steps of each call count.
-use Rattle.std.proofs.Common.{◌≡◌, ℕ, Bool, true, false, List, [], ◌∷◌, Option, Some, None, cond, refl, zero-add, Result}
+use Rattle.std.proofs.Common.{◌≡◌, ℕ, ◌-◌, ◌<◌, length, sym, subst, Bool, true, false, List, [], ◌∷◌, Option, Some, None, cond, refl, zero-add, Result}
 use Rattle.std.specs.Prelude.{option_map, option_to_list, ◌&&◌, ◌==◌}
 use Rattle.std.specs.Option.{option_map_or}
-use Rattle.std.proofs.lemmas.Bool.{eqb-true}
+use Rattle.std.proofs.lemmas.Bool.{and_parts, eqb-true, ltb-true}
 use Rattle.jsp_model.specs.declared.state.State.{State}
 use Rattle.jsp_model.specs.declared.state.Joined.{Joined}
 use Rattle.jsp_model.specs.declared.step.Step.{Step}
@@ -18,7 +18,8 @@ use Rattle.jsp_drive.specs.declared.hear.LineInput.{LineInput}
 use Rattle.jsp_drive.specs.declared.hear.LineInput.TheVariants as line
 use Rattle.jsp_kept.specs.Counts.{asks_of, outs_of, shuts_of}
 use Rattle.jsp_drive.specs.Line.{input_of}
-use Rattle.jsp_kept.specs.Calls.{made}
+use Rattle.jsp_kept.specs.History.{Place, is_lawful}
+use Rattle.jsp_kept.specs.Calls.{IsOf, made}
 use Rattle.jsp_kept.proofs.LastSession.{last_by}
 
 -- these count for nobody
@@ -110,8 +111,24 @@ one_counts false s given = record { asks = λ t. nothing (s == t); outs = λ t. 
 one_counts true s (line.Ask a) = record { asks = λ t. zero-add _; outs = λ t. refl; shuts = refl; last = λ n. refl }
 one_counts true s (line.Fault id r) = record { asks = λ t. zero-add _; outs = λ t. refl; shuts = refl; last = λ n. refl }
 
-pub act_own : (st : State) (s : ℕ) (given : LineInput) (r : Result Unit Stopped) → CountsAsk (acted st (input_of s given) r) s (made (is_open st s) r)
+act_own : (st : State) (s : ℕ) (given : LineInput) (r : Result Unit Stopped) → CountsAsk (acted st (input_of s given) r) s (made (is_open st s) r)
 act_own st s given r = rw (accepts_line st s given) (one_counts (is_open st s && was_done r) s given)
+
+pub line_is_of : (s : ℕ) (given : LineInput) → IsOf s (input_of s given)
+line_is_of s (line.Ask a) = refl
+line_is_of s (line.Fault id r) = refl
+
+-- the same of an input
+pub own_of_session : (st : State) (s : ℕ) (x : Input) (r : Result Unit Stopped) → IsOf s x → CountsAsk (acted st x r) s (made (is_open st s) r)
+own_of_session st s (input.Ask t a) r is = subst (λ n. CountsAsk (acted st (input.Ask n a) r) s (made (is_open st s) r)) (sym is) (act_own st s (line.Ask a) r)
+own_of_session st s (input.Fault t id why) r is = subst (λ n. CountsAsk (acted st (input.Fault n id why) r) s (made (is_open st s) r)) (sym is) (act_own st s (line.Fault id why) r)
+own_of_session st s (input.Open t) r is = absurd is
+own_of_session st s (input.Clock t) r is = absurd is
+
+-- ---- a lawful count
+
+pub lawful_within : (counts : List ℕ) (book : ℕ) (p : Place) → is_lawful counts book p ≡ true → p.session - 1 < length counts
+lawful_within counts book p h = ltb-true (p.session - 1) (length counts) (and_parts _ _ (and_parts _ _ h).0).0
 
 -- ---- handing out
 

@@ -3,8 +3,10 @@ use Rattle.std.specs.Prelude.{◌≡◌, ℕ, ◌+◌, ◌-◌, ◌^◌, ◌≤�
 use Rattle.jsp_model.specs.declared.house.Stopped.{Stopped}
 use Rattle.jsp_model.specs.declared.house.Why.{Why}
 use Rattle.jsp_model.specs.declared.house.Why.TheVariants as why
-use Rattle.jsp_model.specs.House.{was_done, MayStop}
-use Rattle.jsp_kept.specs.History.{History, Place, limit_of}
+use Rattle.jsp_model.specs.declared.house.Input.{Input}
+use Rattle.jsp_model.specs.declared.house.Input.TheVariants as input
+use Rattle.jsp_model.specs.House.{was_done}
+use Rattle.jsp_kept.specs.History.{History, Place}
 
 -- ---- what stays
 
@@ -71,19 +73,24 @@ pub record Seals (h k : History) : Type 0 where
   pub outs_book : k.outs_book ≡ h.outs_book
   pub era : k.era ≡ h.era
 
+-- the input is a request or fault of the session
+abbrev pub IsOf : ℕ → Input → Type 0
+IsOf s (input.Ask t asked) = t ≡ s
+IsOf s (input.Fault t id refusal) = t ≡ s
+IsOf s (input.Open t) = ⊥
+IsOf s (input.Clock t) = ⊥
+
 -- ---- why a call is stopped
 
 abbrev pub audit : Stopped
 audit = record { why = why.Audit; done = false }
 
--- a house's reasons, at the limit of the era
-abbrev pub MayStopIn : History → History → Why → Type 0
-MayStopIn h k w = MayStop (Some (limit_of h)) (length k.steps) w
-
--- there is no number left for a session; or it is a house's reason
-abbrev pub MayNotBegin : History → History → Why → Type 0
-MayNotBegin h k why.Sessions = 2 ^ 31 ≤ h.state.last_session
-MayNotBegin h k w = MayStopIn h k w
+-- there is no number left for a session, or no memory
+abbrev pub MayNotBegin : History → Why → Type 0
+MayNotBegin h why.NoMemory = Unit {0}
+MayNotBegin h why.EraFull = ⊥
+MayNotBegin h why.Sessions = 2 ^ 31 ≤ h.state.last_session
+MayNotBegin h why.Audit = ⊥
 
 -- the result without its value
 abbrev pub outcome : {A : Type 0} → Result A Stopped → Result Unit Stopped

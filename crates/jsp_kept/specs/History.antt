@@ -4,6 +4,7 @@ use Rattle.jsp_model.specs.declared.state.State.{State}
 use Rattle.jsp_model.specs.declared.step.Step.{Step}
 use Rattle.jsp_model.specs.Lookup.{empty}
 use Rattle.jsp_model.specs.Runs.{IsRun, state_after}
+use Rattle.jsp_quiet.specs.Steady.{IsSteady}
 use Rattle.jsp_kept.specs.Counts.{asks_of, outs_of, shuts_of}
 
 -- The counts of the session s stand at the place s - 1 of their lists.
@@ -38,6 +39,7 @@ pub record IsFirst (h : History) : Type 0 where
 pub record IsKept (h : History) : Type 0 where
   pub run : IsRun h.base h.steps
   pub state : h.state ≡ state_after h.base h.steps
+  pub steady : IsSteady h.state
   pub asked : (i : ℕ) → get_or h.asked i 0 ≡ get_or h.asked_before i 0 + asks_of (i + 1) h.steps
   pub taken : (i : ℕ) → get_or h.taken i 0 ≡ get_or h.taken_before i 0 + outs_of (i + 1) h.steps
   pub asks_book : h.asks_book ≡ sum h.asked
@@ -92,6 +94,7 @@ pub record IsWhole (h : History) (b : Beside) : Type 0 where
   pub asks_amount : b.asks_amount ≡ 0
   pub outs_parts : b.outs_parts + h.state.last_session ≡ 2 ^ 31 + 1
   pub outs_amount : b.outs_amount ≡ 0
+  pub some : 1 ≤ h.era
   pub era : h.era ≤ 16777216
   pub limit : b.limit ≡ limit_of h
   pub bound : b.bound ≡ Some b.limit

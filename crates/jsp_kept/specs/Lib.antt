@@ -1,3 +1,4 @@
 pub mod Counts
 pub mod History
 pub mod Calls
+pub mod Eras

@@ -1,20 +1,13 @@
 //! The history that one lock keeps.
-ghost use Rattle.std.specs.Prelude.{◌≡◌, ℕ, List, [], ◌≤◌, ◌<◌, ◌+◌, ◌-◌, ◌^◌, true, false, length, take, get_or, IfOk, IfErr, IfSome, OnOk, OnErr, Ok, Err, vec_len, vec_capacity, IsTrue};
-ghost use Rattle.jsp_model.specs.declared.house.Input.TheVariants as input;
+ghost use Rattle.std.specs.Prelude.{◌≡◌, [], ◌≤◌, ◌+◌, ◌-◌, ◌^◌, false, IfOk, OnOk, OnErr, vec_len, vec_capacity};
 ghost use Rattle.jsp_model.specs.Lookup.{empty, is_open};
-ghost use Rattle.jsp_model.specs.Outboxes.{outbox_of};
 ghost use Rattle.jsp_model.specs.Runs.{IsRun};
-ghost use Rattle.jsp_model.specs.House.{Acts, Settles, Finishes, Makes, handed_out, shuts, next_waiting, awaits_decision};
-ghost use Rattle.jsp_drive.specs.Line.{input_of, is_line_input};
-ghost use Rattle.jsp_kept.specs.History.{IsKept, is_lawful, new_history};
-ghost use Rattle.jsp_kept.specs.Calls.{KeepsEra, KeepsAsks, KeepsOuts, RaisesAsks, RaisesOuts, Begins, Seals, MayStopIn, MayNotBegin, made, audit, outcome, raised};
+ghost use Rattle.jsp_model.specs.House.{Makes, shuts, next_waiting, awaits_decision};
+ghost use Rattle.jsp_kept.specs.History.{IsKept, new_history};
+ghost use Rattle.jsp_kept.specs.Calls.{KeepsEra, KeepsAsks, KeepsOuts, Seals};
 
-use crate::counts::{may_count, raise, reserve_both};
-use crate::seats::{AskSeat, OutSeat, Seat};
 use jsp_audit::empty_image;
-use jsp_drive::LineInput;
-use jsp_model::{Config, House, Image, Input, Settled, Step, Stopped, Why};
-use jsp_reply::Said;
+use jsp_model::{Config, House, Image, Step};
 use jsp_types::{NoMemory, Text};
 use std::alloc::Global;
 use std::marker::Model;
@@ -23,25 +16,25 @@ use std::sync::ledger::{Blank, Book, Ledger, Share};
 /// A house and the history of its era, with what each session asked and took.
 #[derive(Drop)]
 pub struct Kept<H: House, A: Ledger, O: Ledger> {
-    house: H,
-    config: Config,
-    base: Image,
-    asked_before: Vec<u64>,
-    taken_before: Vec<u64>,
-    log: Vec<Step>,
-    asked: Vec<u64>,
-    taken: Vec<u64>,
-    asks: Book<A>,
-    outs: Book<O>,
+    pub(crate) house: H,
+    pub(crate) config: Config,
+    pub(crate) base: Image,
+    pub(crate) asked_before: Vec<u64>,
+    pub(crate) taken_before: Vec<u64>,
+    pub(crate) log: Vec<Step>,
+    pub(crate) asked: Vec<u64>,
+    pub(crate) taken: Vec<u64>,
+    pub(crate) asks: Book<A>,
+    pub(crate) outs: Book<O>,
     /// What no seat has of each ledger.
-    asks_rest: Share<A>,
-    outs_rest: Share<O>,
-    asks_sum: u64,
-    outs_sum: u64,
-    era: u64,
+    pub(crate) asks_rest: Share<A>,
+    pub(crate) outs_rest: Share<O>,
+    pub(crate) asks_sum: u64,
+    pub(crate) outs_sum: u64,
+    pub(crate) era: u64,
     /// The length at which the era is full: a Shut has a place beside the others.
-    limit: u64,
-    is_sealed: bool,
+    pub(crate) limit: u64,
+    pub(crate) is_sealed: bool,
 }
 
 impl<H: House, A: Ledger, O: Ledger> Model for Kept<H, A, O> {
@@ -105,8 +98,6 @@ pub struct Era {
     pub is_sealed: bool,
 }
 
-const SESSIONS: u64 = 1 << 31;
-
 impl<H: House, A: Ledger, O: Ledger> Kept<H, A, O> {
     /// The history of an empty house of this config. An era holds so many steps, beside its Shuts.
     /// The two ledgers are new, with a part for each session and one more.
@@ -125,7 +116,7 @@ impl<H: House, A: Ledger, O: Ledger> Kept<H, A, O> {
         ensures { IfOk result (λ k. k ≡ new_history config.now (H.debt house) era) }
     {
         let base = empty_image(alloc, config)?;
-        let config = config.clone()?;
+        let config = copy_of(config)?;
         let mut house = house;
         house.bound(era);
         let (asks, asks_rest) = asks.open::<A>();
@@ -193,118 +184,6 @@ impl<H: House, A: Ledger, O: Ledger> Kept<H, A, O> {
         self.is_sealed
     }
 
-    /// Whether the era has half the steps that it may have.
-    pub fn is_half_full(&self) -> bool {
-        self.limit / 2 <= self.log.len() as u64
-    }
-
-    /// Opens a session, numbered one above the last.
-    pub fn begin(&mut self) -> Result<Seat<A, O>, Stopped>
-        ensures acts { Acts self.old.state self.new.state self.old.debt self.new.debt self.old.steps self.new.steps (input.Open (self.old.state.last_session + 1)) (outcome result) }
-        ensures begins { IfOk result (λ s. Begins self.old self.new s.asks s.outs) }
-        ensures not_done { IfErr result (λ e. e.done ≡ false) }
-        ensures why { IfErr result (λ e. MayNotBegin self.old self.new e.why) }
-        ensures asks { OnErr result (KeepsAsks self.old self.new) }
-        ensures outs { OnErr result (KeepsOuts self.old self.new) }
-        ensures era { KeepsEra self.old self.new }
-    {
-        let last = self.asked.len() as u64;
-        if last >= SESSIONS {
-            return Err(stopped(Why::Sessions));
-        }
-        if let Err(NoMemory) = reserve_both(&mut self.asked, &mut self.taken) {
-            return Err(stopped(Why::NoMemory));
-        }
-        let session = last + 1;
-        self.house.act(Input::Open { session }, &mut self.log)?;
-        self.asked.push_reserved(0);
-        self.taken.push_reserved(0);
-        let asks = AskSeat {
-            session,
-            count: 0,
-            share: self.asks_rest.split_off(1, 0),
-        };
-        let outs = OutSeat {
-            session,
-            count: 0,
-            share: self.outs_rest.split_off(1, 0),
-        };
-        Ok(Seat { asks, outs })
-    }
-
-    /// A request or fault of the seat's session. Where the session is closed, it is passed over. Of a
-    /// fault the caller's condition is that of `Input::Fault`; what a `Line` gives keeps it.
-    pub fn act(&mut self, seat: &mut AskSeat<A>, given: LineInput) -> Result<(), Stopped>
-        requires { IsTrue (is_line_input given) }
-        ensures audit { is_lawful self.old.asked self.old.asks_book seat.old ≡ false → (result ≡ Err audit) × (self.new ≡ self.old) × (seat.new ≡ seat.old) }
-        ensures acts { is_lawful self.old.asked self.old.asks_book seat.old ≡ true → Acts self.old.state self.new.state self.old.debt self.new.debt self.old.steps self.new.steps (input_of seat.old.session given) result }
-        ensures counts { is_lawful self.old.asked self.old.asks_book seat.old ≡ true → RaisesAsks self.old self.new seat.old seat.new (made (is_open self.old.state seat.old.session) result) }
-        ensures why { is_lawful self.old.asked self.old.asks_book seat.old ≡ true → IfErr result (λ e. MayStopIn self.old self.new e.why) }
-        ensures outs { KeepsOuts self.old self.new }
-        ensures era { KeepsEra self.old self.new }
-    {
-        let session = seat.session;
-        if !may_count(self.asked.as_slice(), self.asks_sum, session, seat.count) {
-            return Err(stopped(Why::Audit));
-        }
-        let open = self.house.is_open(session);
-        let result = self.house.act(given.of_session(session), &mut self.log);
-        let by = own_steps(open, &result);
-        raise(&mut self.asked, session as usize - 1, by);
-        self.asks_sum += by;
-        self.asks.add(&mut seat.share, by);
-        seat.count += by;
-        result
-    }
-
-    /// A reading of the clock, in milliseconds.
-    pub fn clock(&mut self, time: u64) -> Result<(), Stopped>
-        ensures acts { Acts self.old.state self.new.state self.old.debt self.new.debt self.old.steps self.new.steps (input.Clock time) result }
-        ensures why { IfErr result (λ e. MayStopIn self.old self.new e.why) }
-        ensures asks { KeepsAsks self.old self.new }
-        ensures outs { KeepsOuts self.old self.new }
-        ensures era { KeepsEra self.old self.new }
-    {
-        self.house.act(Input::Clock { time }, &mut self.log)
-    }
-
-    /// One turn of what waits for nobody's input.
-    pub fn settle(&mut self) -> Result<Settled, Stopped>
-        ensures settles { Settles self.old.state self.new.state self.old.debt self.new.debt self.old.steps self.new.steps result }
-        ensures why { IfErr result (λ e. MayStopIn self.old self.new e.why) }
-        ensures asks { KeepsAsks self.old self.new }
-        ensures outs { KeepsOuts self.old self.new }
-        ensures era { KeepsEra self.old self.new }
-    {
-        self.house.settle(&mut self.log)
-    }
-
-    /// The next answers of the seat's session, at most `most`.
-    pub fn hand_out(&mut self, seat: &mut OutSeat<O>, most: u64) -> Result<Vec<Said>, Stopped>
-        ensures audit { is_lawful self.old.taken self.old.outs_book seat.old ≡ false → (result ≡ Err audit) × (self.new ≡ self.old) × (seat.new ≡ seat.old) }
-        ensures answers { IfOk result (λ v. v.items ≡ take most (outbox_of self.old.state seat.old.session)) }
-        ensures steps { IfOk result (λ v. Makes self.old.state self.new.state self.old.steps self.new.steps (handed_out seat.old.session (length v.items))) }
-        ensures counts { IfOk result (λ v. RaisesOuts self.old self.new seat.old seat.new (length v.items)) }
-        ensures err { OnErr result ((self.new ≡ self.old) × (seat.new ≡ seat.old)) }
-        ensures not_done { IfErr result (λ e. e.done ≡ false) }
-        ensures why { is_lawful self.old.taken self.old.outs_book seat.old ≡ true → IfErr result (λ e. MayStopIn self.old self.new e.why) }
-        ensures debt { self.new.debt ≡ self.old.debt }
-        ensures asks { KeepsAsks self.old self.new }
-        ensures era { KeepsEra self.old self.new }
-    {
-        let session = seat.session;
-        if !may_count(self.taken.as_slice(), self.outs_sum, session, seat.count) {
-            return Err(stopped(Why::Audit));
-        }
-        let answers = self.house.hand_out(session, most, &mut self.log)?;
-        let count = answers.len() as u64;
-        raise(&mut self.taken, session as usize - 1, count);
-        self.outs_sum += count;
-        self.outs.add(&mut seat.share, count);
-        seat.count += count;
-        Ok(answers)
-    }
-
     /// Closes the session, if it is open. Takes no memory: the log has a spare place for each open
     /// session.
     pub fn shut(&mut self, session: u64)
@@ -319,17 +198,6 @@ impl<H: House, A: Ledger, O: Ledger> Kept<H, A, O> {
             self.limit += 1;
             self.house.bound(self.limit);
         }
-    }
-
-    /// Makes what a stopped call left, and what is due, without a step of its own.
-    pub fn finish(&mut self) -> Result<(), Stopped>
-        ensures finishes { Finishes self.old.state self.new.state self.old.debt self.new.debt self.old.steps self.new.steps result }
-        ensures why { IfErr result (λ e. MayStopIn self.old self.new e.why) }
-        ensures asks { KeepsAsks self.old self.new }
-        ensures outs { KeepsOuts self.old self.new }
-        ensures era { KeepsEra self.old self.new }
-    {
-        self.house.finish(&mut self.log)
     }
 
     /// The era, which ends here.
@@ -367,18 +235,9 @@ impl<H: House, A: Ledger, O: Ledger> Kept<H, A, O> {
     }
 }
 
-// How many steps of its own the act made.
-fn own_steps(accepted: bool, answer: &Result<(), Stopped>) -> u64
-    ensures { result ≡ made accepted answer.now }
+// A copy of the config.
+fn copy_of(config: &Config) -> Result<Config, NoMemory>
+    ensures { IfOk result (λ c. c ≡ config.now) }
 {
-    match answer {
-        Ok(()) => u64::from(accepted),
-        Err(stopped) => u64::from(accepted && stopped.done),
-    }
-}
-
-fn stopped(why: Why) -> Stopped
-    ensures { result ≡ record { why = why; done = false } }
-{
-    Stopped { why, done: false }
+    Ok(config.clone()?)
 }

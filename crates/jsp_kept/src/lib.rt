@@ -9,9 +9,13 @@
 //! before all else. What each call changes, and what stays, is said in `specs/Calls.antt`.
 #![tactic(auto)]
 
+mod calls;
 mod counts;
+mod in_era;
 mod kept;
 mod seats;
+mod through;
+mod turns;
 
 pub use jsp_drive::LineInput;
 pub use kept::{Era, Kept};

@@ -1,5 +1,5 @@
 -- What the calls of a house promise.
-use Rattle.std.specs.Prelude.{◌≡◌, ℕ, ◌≤◌, Bool, true, false, not, if◌then◌else◌, ◌&&◌, ◌||◌, ◌==◌, nat_lt, nat_le, List, [], ◌∷◌, ◌++◌, length, map, filter, find, Option, Some, None, Result, Ok, Err, option_map, option_to_list, IsTrue}
+use Rattle.std.specs.Prelude.{◌≡◌, ℕ, ◌≤◌, Bool, true, false, not, if◌then◌else◌, ◌&&◌, ◌==◌, nat_lt, nat_le, List, [], ◌∷◌, ◌++◌, length, map, filter, find, Option, Some, None, Result, Ok, Err, option_map, option_to_list, IsTrue}
 use Rattle.std.specs.List.{list_all}
 use Rattle.jsp_model.specs.declared.state.State.{State}
 use Rattle.jsp_model.specs.declared.step.Step.{Step}
@@ -81,10 +81,14 @@ was_done (Err e) = e.done
 abbrev pub acted : {A : Type 0} → State → Input → Result A Stopped → List Step
 acted st x result = if accepts st x && was_done result then step_of x ∷ [] else []
 
--- Nothing is due and these spaces are quiet; or the call was stopped, and those that aren't quiet are owed.
+-- each of these spaces is owed
+abbrev pub Covers : List ℕ → List ℕ → Type 0
+Covers owed spaces = IsTrue (list_all (contains owed) spaces)
+
+-- Nothing is due and these spaces are quiet; or the call was stopped, and they are owed.
 abbrev pub Leaves : {A : Type 0} → Result A Stopped → State → List ℕ → List ℕ → Type 0
 Leaves (Ok _) new spaces owed = (due new ≡ None) × IsTrue (are_quiet new spaces) × (owed ≡ [])
-Leaves (Err e) new spaces owed = IsTrue (list_all (λ p. is_quiet new p || contains owed p) spaces)
+Leaves (Err e) new spaces owed = Covers owed spaces
 
 -- what an act does: of the steps that it adds, those that were asked for are the input's own
 pub record Acts (old new : State) (owed left : List ℕ) (before after : List Step) (x : Input) (result : Result Unit Stopped) : Type 0 where
@@ -98,11 +102,35 @@ abbrev pub OpensNone : {A : Type 0} → Input → Result A Stopped → Type 0
 OpensNone (input.Open s) (Err e) = e.done ≡ false
 OpensNone _ _ = Unit {0}
 
+-- ---- making ready
+
+-- Steps that nobody asked for were made. What they touched is owed, and what was owed before still is.
+pub record Goes (old new : State) (owed left : List ℕ) (before after : List Step) : Type 0 where
+  pub steps : List Step
+  pub makes : Makes old new before after steps
+  pub own : own_of steps ≡ []
+  pub covers : Covers left (touched old steps ++ owed)
+
+-- Nothing is due, and what is owed and what the input's step touches is quiet.
+pub record IsReady (st : State) (spaces : List ℕ) (x : Input) : Type 0 where
+  pub nothing_due : due st ≡ None
+  pub owed : IsTrue (are_quiet st spaces)
+  pub to_come : IsTrue (are_quiet st (touches st (step_of x)))
+
 -- ---- settling and finishing
 
 -- the step of a settle turn, if the call was done
 abbrev pub settled_by : State → Result Settled Stopped → List Step
 settled_by st result = if was_done result then option_to_list (settle_step st) else []
+
+-- what a turn answers once this step is made
+abbrev pub answer_to : Step → Settled
+answer_to (step.Vote x space) = settled.Voted
+answer_to _ = settled.Decided
+
+-- what the next turn answers, where a transaction votes
+abbrev pub next_turn : State → Option Settled
+next_turn st = option_map answer_to (settle_step st)
 
 -- What a settle turn answers: the step that it made; or that no transaction votes, and what is quiet now.
 abbrev pub Answers : State → State → Settled → Type 0
@@ -111,9 +139,10 @@ Answers old new settled.Decided = (x : ℕ) × (commits : Bool) × (settle_step 
 Answers old new settled.Quieted = (settle_step old ≡ None) × (p : ℕ) × (first_unquiet old ≡ Some p) × IsTrue (is_quiet new p)
 Answers old new settled.Idle = (settle_step old ≡ None) × AllQuiet new
 
-abbrev pub AnswersOf : State → State → Result Settled Stopped → Type 0
-AnswersOf old new (Ok s) = Answers old new s
-AnswersOf old new (Err e) = Unit {0}
+-- a turn that a full log stopped where no transaction votes owes the first space that wasn't quiet
+abbrev pub AnswersOf : State → State → List ℕ → Result Settled Stopped → Type 0
+AnswersOf old new left (Ok s) = Answers old new s
+AnswersOf old new left (Err e) = e.why ≡ why.EraFull → settle_step old ≡ None → Covers left (option_to_list (first_unquiet old))
 
 -- what a settle turn does
 pub record Settles (old new : State) (owed left : List ℕ) (before after : List Step) (result : Result Settled Stopped) : Type 0 where
@@ -121,7 +150,7 @@ pub record Settles (old new : State) (owed left : List ℕ) (before after : List
   pub makes : Makes old new before after steps
   pub own : own_of steps ≡ settled_by old result
   pub leaves : Leaves result new (touched old steps ++ owed) left
-  pub answers : AnswersOf old new result
+  pub answers : AnswersOf old new left result
 
 -- what is owed is made, and what is due, without a step of its own
 pub record Finishes (old new : State) (owed left : List ℕ) (before after : List Step) (result : Result Unit Stopped) : Type 0 where
@@ -155,6 +184,11 @@ MayStop bound n why.NoMemory = Unit {0}
 MayStop bound n why.EraFull = IsTrue (is_full bound n)
 MayStop bound n why.Sessions = ⊥
 MayStop bound n why.Audit = ⊥
+
+-- Where it was a full log that stopped the call before its own step, it was full at the call.
+abbrev pub WasFull : {A : Type 0} → Option ℕ → ℕ → Result A Stopped → Type 0
+WasFull bound n (Ok x) = Unit {0}
+WasFull bound n (Err e) = e.why ≡ why.EraFull → e.done ≡ false → IsTrue (is_full bound n)
 
 -- ---- handing out and closing
 

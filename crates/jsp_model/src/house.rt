@@ -1,9 +1,10 @@
 //! What keeps a state of the abstract spaces.
-ghost use Rattle.std.specs.Prelude.{◌≡◌, ◌<◌, ◌-◌, IsTrue, false, List, ℕ, Option, Some, length, take, IfOk, IfErr, OnErr, vec_len, vec_capacity};
+ghost use Rattle.std.specs.Prelude.{◌≡◌, ◌<◌, ◌-◌, IsTrue, false, List, ℕ, Option, Some, is_none, length, take, IfOk, IfErr, OnOk, OnErr, vec_len, vec_capacity};
 ghost use Rattle.jsp_model.specs.declared.state.State.{State};
 ghost use Rattle.jsp_model.specs.Lookup.{is_open};
 ghost use Rattle.jsp_model.specs.Outboxes.{outbox_of};
-ghost use Rattle.jsp_model.specs.House.{is_input, Acts, Settles, Finishes, Makes, OpensNone, KeepsRoom, KeepsBound, MayStop, handed_out, shuts, next_waiting, awaits_decision};
+ghost use Rattle.jsp_model.specs.Settling.{first_unquiet};
+ghost use Rattle.jsp_model.specs.House.{is_input, Goes, IsReady, Acts, Settles, Finishes, Makes, OpensNone, KeepsRoom, KeepsBound, MayStop, WasFull, handed_out, shuts, next_waiting, awaits_decision, next_turn};
 
 use crate::{Image, Step};
 use jsp_reply::{Refusal, Said};
@@ -97,12 +98,24 @@ pub trait House: Drop {
     /// The length up to which calls may fill the log, if there is one.
     ghost bound_of: { Self → Option ℕ };
 
+    /// Makes what an earlier call left, what is due, and what the spaces owe that the input's own step
+    /// touches, without that step. All that it touches stays owed, so that the act which follows tells of
+    /// it too.
+    fn make_ready(&mut self, input: &Input, log: &mut Vec<Step>) -> Result<(), Why>
+        ensures goes { Goes (view self.old) (view self.new) (debt self.old) (debt self.new) log.old.items log.new.items }
+        ensures ready { OnOk result (IsReady (view self.new) (debt self.new) input.now) }
+        ensures why { IfErr result (λ w. MayStop (bound_of self.old) (vec_len log.new) w) }
+        ensures room { KeepsRoom (view self.old) (view self.new) (vec_capacity log.old - vec_len log.old) (vec_capacity log.new - vec_len log.new) }
+        ensures bound { KeepsBound (bound_of self.old) (bound_of self.new) (vec_len log.old) (vec_len log.new) };
+
     /// Makes the input's own step, once, and then those that nobody has to ask for, until nothing
-    /// is due and every touched space is quiet. What an earlier call left is finished first.
+    /// is due and every touched space is quiet. What an earlier call left is finished first. Where the
+    /// house was made ready for the input, the log has the place for its step, if it had one at the call.
     fn act(&mut self, input: Input, log: &mut Vec<Step>) -> Result<(), Stopped>
         requires { IsTrue (is_input input) }
         ensures acts { Acts (view self.old) (view self.new) (debt self.old) (debt self.new) log.old.items log.new.items input result }
         ensures opens { OpensNone input result }
+        ensures ready { IsReady (view self.old) (debt self.old) input → WasFull (bound_of self.old) (vec_len log.old) result }
         ensures why { IfErr result (λ e. MayStop (bound_of self.old) (vec_len log.new) e.why) }
         ensures room { KeepsRoom (view self.old) (view self.new) (vec_capacity log.old - vec_len log.old) (vec_capacity log.new - vec_len log.new) }
         ensures bound { KeepsBound (bound_of self.old) (bound_of self.new) (vec_len log.old) (vec_len log.new) };
@@ -166,6 +179,14 @@ pub trait House: Drop {
     /// Whether some commit awaits its decision.
     fn is_voting(&self) -> bool
         ensures { result ≡ awaits_decision (view self.now) };
+
+    /// What the next settle turn answers, where some commit awaits its decision.
+    fn turn(&self) -> Option<Settled>
+        ensures { result ≡ next_turn (view self.now) };
+
+    /// Whether every space is quiet.
+    fn is_quiet(&self) -> bool
+        ensures { result ≡ is_none (first_unquiet (view self.now)) };
 
     /// A copy of the state.
     fn image(&self) -> Result<Image, NoMemory>

@@ -2,7 +2,7 @@
 use Rattle.std.proofs.Common.{◌≡◌, refl, sym, ◌∙◌, subst, ℕ, List, [], ◌∷◌, ◌++◌, Bool, true, false, not, cond, ◌&&◌, ◌||◌, true≢false}
 use Rattle.std.specs.Prelude.{Result, Ok, Err, map, filter}
 use Rattle.std.specs.List.{list_all}
-use Rattle.std.proofs.lemmas.Bool.{and_parts, and_from}
+use Rattle.std.proofs.lemmas.Bool.{and_parts, and_from, or_right}
 use Rattle.jsp_model.specs.declared.state.State.{State}
 use Rattle.jsp_model.specs.declared.step.Step.{Step}
 use Rattle.jsp_model.specs.declared.step.Step.TheVariants as step
@@ -67,7 +67,11 @@ left_settled (Ok u) new spaces left (d, q, n) = settled spaces q
     settled : (ps : List ℕ) → are_quiet new ps ≡ true → list_all (is_settled new left) ps ≡ true
     settled [] e = refl
     settled (p ∷ ps) e = let parts = and_parts (is_quiet new p) (are_quiet new ps) e in and_from (is_settled new left p) (list_all (is_settled new left) ps) (rw parts.0 refl) (settled ps parts.1)
-left_settled (Err e) new spaces left h = h
+left_settled (Err e) new spaces left h = owed spaces h
+  where
+    owed : (ps : List ℕ) → list_all (contains left) ps ≡ true → list_all (is_settled new left) ps ≡ true
+    owed [] e = refl
+    owed (p ∷ ps) e = let parts = and_parts (contains left p) (list_all (contains left) ps) e in and_from (is_settled new left p) (list_all (is_settled new left) ps) (or_right (is_quiet new p) (contains left p) parts.0) (owed ps parts.1)
 
 both_all : (t : ℕ → Bool) (xs ys : List ℕ) → list_all t (xs ++ ys) ≡ true → (list_all t xs ≡ true) × (list_all t ys ≡ true)
 both_all t [] ys e = (refl, e)

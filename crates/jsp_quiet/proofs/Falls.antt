@@ -22,7 +22,7 @@ use Rattle.jsp_model.specs.Lookup.{update, contains, is_caller, is_voting, block
 use Rattle.jsp_model.specs.Sight.{is_take, is_if, available, has_conflict}
 use Rattle.jsp_model.specs.Changes.{unread, aborted, unblock, tell, remove}
 use Rattle.jsp_model.specs.Steps.{is_choice, is_legal, after_grant, next}
-use Rattle.jsp_model.specs.Runs.{is_run}
+use Rattle.jsp_model.specs.Runs.{is_run, state_after}
 use Rattle.jsp_model.specs.House.{is_unasked}
 use Rattle.jsp_model.specs.Due.{due, items}
 use Rattle.jsp_model.specs.Quiet.{are_quiet}
@@ -349,19 +349,23 @@ free_falls st (step.Vote x space) e q = absurd (cc)
 free_falls st (step.Decide x c) e q = absurd (cc)
 free_falls st (step.HandOut s n) e q = absurd (cc)
 
--- so many of them can follow one another at most
+-- so many of them can follow one another at most, and those that did come off what is left
 pub falls_run : (measure : State → ℕ) (test : Step → Bool) → ((st : State) (act : Step) → is_legal st act ≡ true → test act ≡ true → measure (next st act) < measure st)
-    → (st : State) (steps : List Step) → is_run st steps ≡ true → list_all test steps ≡ true → length steps ≤ measure st
+    → (st : State) (steps : List Step) → is_run st steps ≡ true → list_all test steps ≡ true → length steps + measure (state_after st steps) ≤ measure st
 falls_run measure test falls st [] run all = omega arith
 falls_run measure test falls st (act ∷ steps) run all =
     let legal : (is_legal st act ≡ true) × (is_run (next st act) steps ≡ true) = and_both (is_legal st act) (is_run (next st act) steps) run in
     let passes : (test act ≡ true) × (list_all test steps ≡ true) = and_parts (test act) (list_all test steps) all in
     let first : measure (next st act) < measure st = falls st act legal.0 passes.0 in
-    let rest : length steps ≤ measure (next st act) = falls_run measure test falls (next st act) steps legal.1 passes.1 in
+    let rest : length steps + measure (state_after (next st act) steps) ≤ measure (next st act) = falls_run measure test falls (next st act) steps legal.1 passes.1 in
     omega (arith, first, rest)
 
 pub quieting_ends : (st : State) (steps : List Step) → is_run st steps ≡ true → list_all quiets steps ≡ true → length steps ≤ left_to_say st
-quieting_ends st steps run all = falls_run left_to_say quiets quieting_falls st steps run all
+quieting_ends st steps run all = omega (arith, falls_run left_to_say quiets quieting_falls st steps run all)
+
+pub free_run_falls : (st : State) (steps : List Step) → is_run st steps ≡ true → list_all is_unasked steps ≡ true
+    → length steps + (left_to_say (state_after st steps) + living (state_after st steps)) ≤ left_to_say st + living st
+free_run_falls st steps run all = falls_run (λ st. left_to_say st + living st) is_unasked free_falls st steps run all
 
 pub free_ends : (st : State) (steps : List Step) → is_run st steps ≡ true → list_all is_unasked steps ≡ true → length steps ≤ left_to_say st + living st
-free_ends st steps run all = falls_run (λ st. left_to_say st + living st) is_unasked free_falls st steps run all
+free_ends st steps run all = omega (arith, free_run_falls st steps run all)

@@ -1,3 +1,2 @@
 pub mod Asking
 mod Batching
-mod Paging

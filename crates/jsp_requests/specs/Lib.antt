@@ -1,7 +1,4 @@
 pub mod Cancelling
 pub mod Ending
-pub mod Granting
 pub mod Greeting
-pub mod Paging
-pub mod Registering
 pub mod Telling

@@ -16,16 +16,16 @@ ghost use Rattle.jsp_model.specs.declared.limits.TheConstants.{LAST_CRASH_COUNT,
 
 use crate::batch::{accept_cancel_all, accept_renew_all, cancel_answers, renew_answers};
 use crate::lease::{accept_cancel, accept_renew, answer_renew, refuse_cancel, refuse_renew};
-use crate::match_set::{
-    accept_contents, answer_next, close_set, refuse_contents, refuse_set, turn_page,
-};
-use crate::registration::{accept_notify, refuse_notify};
 use crate::telling::{answer_commit, refuse_at, refuse_under};
 use crate::transaction::{refuse_begin, refuse_commit, refuse_reset, refuse_transaction, state_of};
 use jsp_entries::{
     accept_declare, accept_entries, accept_entry, accept_many, accept_one, answer_entries,
     answer_leased, answer_many, answer_one, refuse_declare, refuse_entries, refuse_entry,
     refuse_many, refuse_one, waiting_many, waiting_one,
+};
+use jsp_grants::{
+    accept_contents, accept_notify, answer_next, close_set, refuse_contents, refuse_notify,
+    refuse_set, turn_page,
 };
 use jsp_model::{Blocked, Form, State};
 use jsp_reply::{Refusal, Reply};

@@ -1,6 +1,6 @@
 -- Steps that nobody asked for, one after another, and what they leave owed.
 use Rattle.std.proofs.Common.{◌≡◌, refl, ap, sym, ◌∙◌, subst, ℕ, ◌+◌, ◌<◌, List, [], ◌∷◌, ◌++◌, Bool, true, ◌||◌, Ok, Err, append_assoc, inl, inr, ◌==◌}
-use Rattle.std.specs.Prelude.{Option, None}
+use Rattle.std.specs.Prelude.{Option, None, option_map}
 use Rattle.std.specs.List.{list_all}
 use Rattle.std.proofs.lemmas.Bool.{and_parts, and_from, or_right, eq-eqb}
 use Rattle.jsp_model.specs.declared.state.State.{State}
@@ -12,41 +12,13 @@ use Rattle.jsp_model.specs.Quiet.{is_quiet, are_quiet}
 use Rattle.jsp_model.specs.Touches.{touches}
 use Rattle.jsp_model.specs.Steps.{is_legal, next}
 use Rattle.jsp_model.specs.Runs.{state_after}
-use Rattle.jsp_model.specs.House.{Makes, Leaves, Finishes, own_of, bare, is_unasked, touched}
+use Rattle.jsp_model.specs.House.{Covers, Goes, Makes, Leaves, Finishes, own_of, bare, is_unasked, touched}
 use Rattle.jsp_model.proofs.Joining.{own_of-append, Makes-none, Makes-then}
 use Rattle.jsp_laws.proofs.Lists.{Has, each_numbers, each_has, each_by_all}
 use Rattle.jsp_quiet.specs.Quieting.{left_to_say, living}
-use Rattle.jsp_rows.specs.Owing.{Covers, Goes, IsDone}
+use Rattle.jsp_quiet.proofs.Covering.{all_both, all_parts, covered, covers_more, touched-append}
+use Rattle.jsp_rows.specs.Owing.{IsDone}
 use Rattle.jsp_rows.proofs.Places.{all_has}
-
--- ---- what is owed
-
-pub all_both : (t : ℕ → Bool) (xs ys : List ℕ) → list_all t xs ≡ true → list_all t ys ≡ true → list_all t (xs ++ ys) ≡ true
-all_both t [] ys h k = k
-all_both t (x ∷ xs) ys h k = let parts = and_parts (t x) (list_all t xs) h in and_from (t x) (list_all t (xs ++ ys)) parts.0 (all_both t xs ys parts.1 k)
-
-pub all_parts : (t : ℕ → Bool) (xs ys : List ℕ) → list_all t (xs ++ ys) ≡ true → (list_all t xs ≡ true) × (list_all t ys ≡ true)
-all_parts t [] ys h = (refl, h)
-all_parts t (x ∷ xs) ys h =
-    let parts = and_parts (t x) (list_all t (xs ++ ys)) h in
-    let rest = all_parts t xs ys parts.1 in
-    (and_from (t x) (list_all t xs) parts.0 rest.0, rest.1)
-
--- what holds of all that is owed holds of what that covers
-pub covered : (t : ℕ → Bool) (owed spaces : List ℕ) → Covers owed spaces → list_all t owed ≡ true → list_all t spaces ≡ true
-covered t owed [] c h = refl
-covered t owed (p ∷ spaces) c h =
-    let parts = and_parts (contains owed p) (list_all (contains owed) spaces) c in
-    and_from (t p) (list_all t spaces) (each_numbers t owed p h parts.0) (covered t owed spaces parts.1 h)
-
-pub covers_more : (owed more spaces : List ℕ) → Covers more owed → Covers owed spaces → Covers more spaces
-covers_more owed more spaces c d = covered (contains more) owed spaces d c
-
--- ---- what a run touches
-
-pub touched-append : (st : State) (xs ys : List Step) → touched st (xs ++ ys) ≡ touched st xs ++ touched (state_after st xs) ys
-touched-append st [] ys = refl
-touched-append st (x ∷ xs) ys = ap (λ w. touches st x ++ w) (touched-append (next st x) xs ys) ∙ sym (append_assoc (touches st x) (touched (next st x) xs) (touched (state_after (next st x) xs) ys))
 
 -- ---- one step after another
 
@@ -90,9 +62,6 @@ goes_more old st new owed mid left before log after x g free legal made entered 
 
 -- ---- what is left
 
-pub settled_if_owed : (st : State) (owed spaces : List ℕ) → Covers owed spaces → list_all (λ p. is_quiet st p || contains owed p) spaces ≡ true
-settled_if_owed st owed spaces c = all_has (λ p. is_quiet st p || contains owed p) spaces (λ p k. or_right (is_quiet st p) (contains owed p) (each_has (λ q. contains owed q ≡ true) spaces p (each_by_all (contains owed) spaces c) k))
-
 -- nothing: all that was owed is quiet
 pub finishes_all : (old new : State) (owed debt left : List ℕ) (before after : List Step) → Goes old new owed debt before after → IsDone new debt None → left ≡ [] → Finishes old new owed left before after (Ok tt)
 finishes_all old new owed debt left before after g d none = record {
@@ -104,7 +73,7 @@ finishes_all old new owed debt left before after g d none = record {
 
 -- or the call was stopped
 pub finishes_some : (old new : State) (owed left : List ℕ) (before after : List Step) (e : Stopped) → Goes old new owed left before after → Finishes old new owed left before after (Err e)
-finishes_some old new owed left before after e g = record { steps = g.steps; makes = g.makes; own = g.own; leaves = settled_if_owed new left (touched old g.steps ++ owed) g.covers }
+finishes_some old new owed left before after e g = record { steps = g.steps; makes = g.makes; own = g.own; leaves = g.covers }
 
 -- ---- what is owed grows
 
@@ -120,3 +89,10 @@ covers_pushed owed p = all_has (contains (owed ++ p ∷ [])) owed (λ q k. left 
 
 pub falls_to : (st new : State) (x : Step) → new ≡ next st x → left_to_say (next st x) + living (next st x) < left_to_say st + living st → left_to_say new + living new < left_to_say st + living st
 falls_to st new x made h = subst (λ (s : State). left_to_say s + living s < left_to_say st + living st) (sym made) h
+
+-- ---- where nothing is left, no step is made
+
+pub some_undone : {A : Type 0} (f : A → Step) (x : Option A) (old st : State) (owed debt : List ℕ) (n m : ℕ) → (IsDone old owed (option_map f x) → (st ≡ old) × (debt ≡ owed) × (m ≡ n))
+    → (IsDone st debt (option_map f x) → ⊥) → IsDone old owed (option_map f x) → ⊥
+some_undone f x old st owed debt n m same undone d =
+    let k = same d in undone (rw (k.0, k.1) d)

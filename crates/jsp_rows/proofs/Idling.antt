@@ -8,11 +8,12 @@ use Rattle.jsp_model.specs.declared.state.Space.{Space}
 use Rattle.jsp_model.specs.declared.step.Step.{Step}
 use Rattle.jsp_model.specs.declared.house.Stopped.{Stopped}
 use Rattle.jsp_model.specs.declared.house.Settled.TheVariants as settled
+use Rattle.jsp_model.specs.declared.house.Why.TheVariants as why
 use Rattle.jsp_model.specs.Lookup.{contains}
 use Rattle.jsp_model.specs.Quiet.{is_quiet, are_quiet}
 use Rattle.jsp_model.specs.Runs.{state_after}
 use Rattle.jsp_model.specs.Settling.{settle_step, first_unquiet, places, AllQuiet}
-use Rattle.jsp_model.specs.House.{Settles, Finishes, is_unasked, own_of, touched}
+use Rattle.jsp_model.specs.House.{Covers, Settles, Finishes, is_unasked, own_of, touched}
 use Rattle.jsp_model.proofs.Joining.{Makes-none}
 use Rattle.jsp_model.proofs.Closing.{free_run_spaces}
 use Rattle.jsp_laws.proofs.Lists.{each_has, each_by_all, each_numbers}
@@ -20,14 +21,13 @@ use Rattle.jsp_quiet.specs.Steady.{IsSteady}
 use Rattle.jsp_quiet.specs.Quieting.{decides}
 use Rattle.jsp_quiet.proofs.Runs.{quiet_act}
 use Rattle.jsp_quiet.proofs.Driving.{undecided}
-use Rattle.jsp_rows.specs.Owing.{Covers}
 use Rattle.jsp_rows.proofs.Places.{all_has, none_unquiet}
-use Rattle.jsp_rows.proofs.Going.{all_both, all_parts, covered}
+use Rattle.jsp_quiet.proofs.Covering.{all_both, all_parts, covered, covers_more}
 
 -- ---- all spaces are quiet
 
 -- what was quiet still is, after such steps that leave quiet what they touch
-still_quiet : (old new : State) (owed left : List ℕ) (before after : List Step) → IsSteady old → Finishes old new owed left before after (Ok tt) → AllQuiet old → AllQuiet new
+pub still_quiet : (old new : State) (owed left : List ℕ) (before after : List Step) → IsSteady old → Finishes old new owed left before after (Ok tt) → AllQuiet old → AllQuiet new
 still_quiet old new owed left before after h f quiet =
     let undecides : list_all (λ x. not (decides x)) f.steps ≡ true = undecided f.steps (rw f.own refl) in
     let spaces : new.spaces ≡ old.spaces = subst (λ (w : State). w.spaces ≡ old.spaces) f.makes.view (free_run_spaces old f.steps f.own) in
@@ -67,24 +67,25 @@ quieted old new owed debt left before after p none found c d f =
 
 -- ---- or the call was stopped
 
-pub quieting_stopped : (old new : State) (owed debt left : List ℕ) (before after : List Step) (e : Stopped) → settle_step old ≡ None → Covers debt owed → Finishes old new debt left before after (Err e) → Settles old new owed left before after (Err e)
-quieting_stopped old new owed debt left before after e none c f = record {
+pub quieting_stopped : (old new : State) (owed debt left : List ℕ) (before after : List Step) (p : ℕ) (e : Stopped) → settle_step old ≡ None → first_unquiet old ≡ Some p → Covers debt owed → Covers debt (p ∷ [])
+    → Finishes old new debt left before after (Err e) → Settles old new owed left before after (Err e)
+quieting_stopped old new owed debt left before after p e none found c d f = record {
   steps = f.steps;
   makes = f.makes;
   own = f.own ∙ none_due old e.done none;
-  leaves = covers_part (λ p. is_quiet new p || contains left p) (touched old f.steps) debt owed c f.leaves;
-  answers = tt;
+  leaves = covers_part (contains left) (touched old f.steps) debt owed c f.leaves;
+  answers = λ full no_turn. rw found (covers_more debt left (p ∷ []) (all_parts (contains left) (touched old f.steps) debt f.leaves).1 d);
 }
 
-pub idling_stopped : (old new : State) (owed left : List ℕ) (before after : List Step) (e : Stopped) → settle_step old ≡ None → Finishes old new owed left before after (Err e) → Settles old new owed left before after (Err e)
-idling_stopped old new owed left before after e none f = record { steps = f.steps; makes = f.makes; own = f.own ∙ none_due old e.done none; leaves = f.leaves; answers = tt }
+pub idling_stopped : (old new : State) (owed left : List ℕ) (before after : List Step) (e : Stopped) → settle_step old ≡ None → first_unquiet old ≡ None → Finishes old new owed left before after (Err e) → Settles old new owed left before after (Err e)
+idling_stopped old new owed left before after e none quiet f = record { steps = f.steps; makes = f.makes; own = f.own ∙ none_due old e.done none; leaves = f.leaves; answers = λ full no_turn. rw quiet refl }
 
 -- before it made a step
-pub quieting_unmade : (old : State) (owed left : List ℕ) (log : List Step) (e : Stopped) → settle_step old ≡ None → Covers left owed → Settles old old owed left log log (Err e)
-quieting_unmade old owed left log e none c = record {
+pub quieting_unmade : (old : State) (owed left : List ℕ) (log : List Step) (e : Stopped) → settle_step old ≡ None → e.why ≡ why.NoMemory → Covers left owed → Settles old old owed left log log (Err e)
+quieting_unmade old owed left log e none no_memory c = record {
   steps = [];
   makes = Makes-none old log;
   own = none_due old e.done none;
-  leaves = all_has (λ p. is_quiet old p || contains left p) owed (λ p k. or_right (is_quiet old p) (contains left p) (each_has (λ q. contains left q ≡ true) owed p (each_by_all (contains left) owed c) k));
-  answers = tt;
+  leaves = c;
+  answers = λ full no_turn. absurd (cc (no_memory, full));
 }

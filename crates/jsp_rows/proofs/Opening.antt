@@ -15,10 +15,11 @@ use Rattle.jsp_model.specs.Quiet.{is_quiet, are_quiet}
 use Rattle.jsp_model.specs.Touches.{touches}
 use Rattle.jsp_model.specs.Steps.{is_legal, next}
 use Rattle.jsp_model.specs.Runs.{state_after}
-use Rattle.jsp_model.specs.House.{Acts, OpensNone, accepts, acted, own_of, touched}
+use Rattle.jsp_model.specs.House.{Goes, Acts, OpensNone, accepts, acted, own_of, touched}
 use Rattle.jsp_model.proofs.Joining.{own_of-append, Makes-then}
-use Rattle.jsp_rows.specs.Owing.{Goes, IsDone}
-use Rattle.jsp_rows.proofs.Going.{all_both, all_parts, covered, touched-append, makes_one, settled_if_owed}
+use Rattle.jsp_rows.specs.Owing.{IsDone}
+use Rattle.jsp_quiet.proofs.Covering.{all_both, all_parts, covered, touched-append}
+use Rattle.jsp_rows.proofs.Going.{makes_one}
 use Rattle.jsp_rows.proofs.Coming.{goes_still}
 
 -- ---- the step
@@ -57,7 +58,7 @@ opens_stopped old new owed left before after x e not_done g = record {
   steps = g.steps;
   makes = g.makes;
   own = g.own ∙ sym (rw (not_done, and_false (accepts old x)) refl);
-  leaves = settled_if_owed new left (touched old g.steps ++ owed) g.covers;
+  leaves = g.covers;
 }
 
 pub opens : (old mid new : State) (owed debt left : List ℕ) (before log after : List Step) (s : ℕ) → Goes old mid owed debt before log → IsDone mid debt None → accepts old (input.Open s) ≡ true

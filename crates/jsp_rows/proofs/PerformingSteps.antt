@@ -10,11 +10,12 @@ use Rattle.jsp_model.specs.Quiet.{is_quiet, are_quiet}
 use Rattle.jsp_model.specs.Touches.{touches}
 use Rattle.jsp_model.specs.Steps.{is_legal, next}
 use Rattle.jsp_model.specs.Runs.{state_after}
-use Rattle.jsp_model.specs.House.{Makes, Leaves, Finishes, own_of, bare, is_unasked, touched, was_done}
+use Rattle.jsp_model.specs.House.{Covers, Goes, Makes, Leaves, Finishes, own_of, bare, is_unasked, touched, was_done}
 use Rattle.jsp_model.proofs.Joining.{own_of-append, Makes-then}
-use Rattle.jsp_rows.specs.Owing.{Covers, Goes, IsDone}
+use Rattle.jsp_rows.specs.Owing.{IsDone}
 use Rattle.jsp_rows.specs.Making.{Performs, MakesOwn, may_come, has_rows, if_done}
-use Rattle.jsp_rows.proofs.Going.{all_both, all_parts, covered, covers_more, touched-append, makes_one, goes_none, settled_if_owed}
+use Rattle.jsp_quiet.proofs.Covering.{all_both, all_parts, covered, covers_more, touched-append}
+use Rattle.jsp_rows.proofs.Going.{makes_one, goes_none}
 use Rattle.jsp_rows.proofs.Coming.{come_legal, come_bare, comes_asked, touches_bare}
 
 -- ---- the step is made
@@ -42,7 +43,7 @@ performs_none old new owed left before after x e not_done g = record {
   steps = g.steps;
   makes = g.makes;
   own = g.own ∙ sym (rw not_done refl);
-  leaves = settled_if_owed new left (touched old g.steps ++ owed) g.covers;
+  leaves = g.covers;
 }
 
 -- what holds of all that is owed after the step, and of what is touched from then on, holds of all that was touched and owed
@@ -62,7 +63,7 @@ widen t old mid now owed d e before log after x g m more h =
 leaves_widened : (r : Result Unit Stopped) (old mid now new : State) (owed d e left : List ℕ) (before log after : List Step) (x : Step) (g : Goes old mid owed d before log) (m : MakesOwn mid now d e log after x) (more : List Step)
     → Leaves r new (touched now more ++ e) left → Leaves r new (touched old (g.steps ++ m.made ∷ more) ++ owed) left
 leaves_widened (Ok u) old mid now new owed d e left before log after x g m more h = (h.0, widen (is_quiet new) old mid now owed d e before log after x g m more h.1, h.2)
-leaves_widened (Err z) old mid now new owed d e left before log after x g m more h = widen (λ p. is_quiet new p || contains left p) old mid now owed d e before log after x g m more h
+leaves_widened (Err z) old mid now new owed d e left before log after x g m more h = widen (contains left) old mid now owed d e before log after x g m more h
 
 done_own : (r : Result Unit Stopped) (x : Step) → IfErr r (λ z. z.done ≡ true) → bare x ∷ [] ≡ if_done x r
 done_own (Ok u) x h = refl

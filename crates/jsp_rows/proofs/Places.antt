@@ -1,7 +1,7 @@
 -- What the limits of a state give to the choice of a step: its lists rise, its requests ask for a row, and a place that
 -- is no space's is quiet.
 use Rattle.std.proofs.Common.{◌≡◌, refl, ℕ, zero, suc, ◌+◌, ◌<◌, ◌≤◌, List, [], ◌∷◌, length, Bool, true, false, not, ◌&&◌, ◌||◌, inl, inr, Option, Some, None, ◌==◌, nat_lt, arith}
-use Rattle.std.specs.Prelude.{find, IfNone}
+use Rattle.std.specs.Prelude.{find, IfSome, IfNone}
 use Rattle.std.specs.List.{list_all, range_with_len}
 use Rattle.std.proofs.lemmas.Bool.{and_parts, and_from, leb-true, ltb-true, ltb-false, eqb-true, eqb-false, eq-eqb, ne_eqb, not-false, or_right}
 use Rattle.jsp_model.specs.declared.state.State.{State}
@@ -14,7 +14,7 @@ use Rattle.jsp_model.specs.Lookup.{contains}
 use Rattle.jsp_model.specs.Limits.{IsWithinLimits, is_blocked, is_registration}
 use Rattle.jsp_model.specs.Quiet.{must_wait, is_quiet, are_quiet}
 use Rattle.jsp_model.specs.Settling.{places}
-use Rattle.jsp_laws.proofs.Lists.{Each, Has, each_weaker, each_by_all, each_has, found_has}
+use Rattle.jsp_laws.proofs.Lists.{Each, Has, each_weaker, each_by_all, each_has, each_numbers, found_has}
 use Rattle.jsp_laws.proofs.Rising.{IsRising}
 use Rattle.jsp_quiet.specs.Quieting.{AllAskForSome}
 use Rattle.jsp_rows.proofs.LeastRows.{all_rising}
@@ -117,3 +117,18 @@ found_unquiet st spaces p found quiet = clash (is_quiet st p) quiet (and_parts (
 pub always_some : {A : Type 0} (st : State) (spaces : List ℕ) (p : ℕ) (o : Option A) → find (λ p. contains spaces p && not (is_quiet st p)) (places st) ≡ Some p → IfNone o (is_quiet st p ≡ true) → IfNone o (are_quiet st spaces ≡ true)
 always_some st spaces p None found h = absurd (found_unquiet st spaces p found h)
 always_some st spaces p (Some x) found h = tt
+
+-- so not all of them are quiet
+pub some_unquiet_of : (st : State) (spaces : List ℕ) (p : ℕ) → find (λ q. contains spaces q && not (is_quiet st q)) (places st) ≡ Some p → are_quiet st spaces ≡ false
+some_unquiet_of st spaces p found = go (are_quiet st spaces) refl
+  where
+    there : contains spaces p ≡ true
+    there = (and_parts (contains spaces p) (not (is_quiet st p)) (found_has (λ q. contains spaces q && not (is_quiet st q)) (places st) p found).1).0
+
+    go : (b : Bool) → are_quiet st spaces ≡ b → b ≡ false
+    go false e = refl
+    go true e = absurd (found_unquiet st spaces p found (each_numbers (is_quiet st) spaces p e there))
+
+pub if_some : {A P : Type 0} (o : Option A) → P → IfSome o (λ s. P)
+if_some None p = tt
+if_some (Some x) p = p

@@ -19,7 +19,7 @@ use Rattle.jsp_model.specs.Settling.{first_voting, turn_of, settle_step}
 use Rattle.jsp_model.specs.House.{Settles, Answers, bare}
 use Rattle.jsp_laws.proofs.Lists.{Has, each_has, each_by_all, found_has}
 use Rattle.jsp_rows.specs.Making.{Performs, may_come}
-use Rattle.jsp_rows.specs.Settling.{answer_to}
+use Rattle.jsp_model.specs.House.{answer_to}
 use Rattle.jsp_rows.proofs.Places.{find_none, all_has}
 
 -- ---- lists
@@ -116,7 +116,7 @@ turn_by P st s vote decide e = go (first_voting st) e
 pub settle_bare : (st : State) (s : Step) → settle_step st ≡ Some s → bare s ≡ s
 settle_bare st s e = turn_by (λ w. bare w ≡ w) st s (λ x space. refl) (λ x c. refl) e
 
-settle_answers : (old new : State) (s : Step) → settle_step old ≡ Some s → Answers old new (answer_to s)
+pub settle_answers : (old new : State) (s : Step) → settle_step old ≡ Some s → Answers old new (answer_to s)
 settle_answers old new s e = turn_by (λ w. settle_step old ≡ Some w → Answers old new (answer_to w)) old s (λ x space k. (x, space, k)) (λ x c k. (x, c, k)) e e
 
 -- ---- so the turn is settled
@@ -129,4 +129,4 @@ pub turned : (old new : State) (owed left : List ℕ) (before after : List Step)
 turned old new owed left before after s e p = record { steps = p.steps; makes = p.makes; own = p.own ∙ own_turn old s true e; leaves = p.leaves; answers = settle_answers old new s e }
 
 pub turn_stopped : (old new : State) (owed left : List ℕ) (before after : List Step) (s : Step) (e : Stopped) → settle_step old ≡ Some s → Performs old new owed left before after s (Err e) → Settles old new owed left before after (Err e)
-turn_stopped old new owed left before after s e is p = record { steps = p.steps; makes = p.makes; own = p.own ∙ own_turn old s e.done is; leaves = p.leaves; answers = tt }
+turn_stopped old new owed left before after s e is p = record { steps = p.steps; makes = p.makes; own = p.own ∙ own_turn old s e.done is; leaves = p.leaves; answers = λ full none. absurd (cc (rw is at none)) }

@@ -1,3 +1,2 @@
 pub mod Owing
 pub mod Making
-pub mod Settling

@@ -11,8 +11,7 @@ use Rattle.jsp_model.specs.Steps.{is_fault, is_vote_to_abort, is_vote_to_commit,
 use Rattle.jsp_model.specs.Refusals.{refusal}
 use Rattle.jsp_model.specs.Requests.{rows_asked}
 use Rattle.jsp_model.specs.Touches.{touches}
-use Rattle.jsp_model.specs.House.{Makes, Leaves, KeepsRoom, IsWithin, own_of, bare, is_unasked, touched, was_done}
-use Rattle.jsp_rows.specs.Owing.{Covers}
+use Rattle.jsp_model.specs.House.{Covers, Makes, Leaves, KeepsRoom, IsWithin, own_of, bare, is_unasked, touched, was_done}
 use Rattle.jsp_model.specs.declared.limits.TheConstants.{LAST_SESSION}
 
 -- ---- the log

@@ -1,15 +1,16 @@
 //! What an act does.
-ghost use Rattle.std.specs.Prelude.{◌≡◌, ◌-◌, ◌^◌, ◌&&◌, nat_le, nat_lt, true, false, IfErr, IsTrue, vec_len, vec_capacity};
+ghost use Rattle.std.specs.Prelude.{◌≡◌, ◌-◌, ◌^◌, ◌&&◌, nat_le, nat_lt, true, false, None, OnOk, IfErr, IsTrue, vec_len, vec_capacity};
 ghost use Rattle.jsp_model.specs.declared.house.Input.TheVariants as input;
-ghost use Rattle.jsp_model.specs.House.{Acts, MayStop, OpensNone, is_input, accepts as takes, acted, step_of as own_step};
+ghost use Rattle.jsp_model.specs.House.{Acts, Goes, IsReady, MayStop, WasFull, OpensNone, is_input, accepts as takes, acted, step_of as own_step};
 ghost use Rattle.jsp_rows.specs.Making.{KeepsLog};
+ghost use Rattle.jsp_rows.specs.Owing.{IsDone};
 ghost use Rattle.jsp_model.specs.declared.limits.TheConstants.{LAST_SESSION};
 
 use crate::finishing::finish;
 use crate::making::make;
 use crate::performing::{clear, perform};
 use jsp_audit::is_open;
-use jsp_model::{Image, Input, LAST_SESSION, Step, Stopped};
+use jsp_model::{Image, Input, LAST_SESSION, Step, Stopped, Why};
 use jsp_types::Items;
 use std::alloc::Global;
 
@@ -25,6 +26,7 @@ pub(crate) fn act(
     requires { IsTrue (is_input input) }
     ensures acts { Acts image.old image.new debt.old.items debt.new.items log.old.items log.new.items input result }
     ensures opens { OpensNone input result }
+    ensures ready { IsReady image.old debt.old.items input → WasFull bound (vec_len log.old) result }
     ensures keeps { KeepsLog image.old image.new bound (vec_len log.old) (vec_len log.new) (vec_capacity log.old - vec_len log.old) (vec_capacity log.new - vec_len log.new) }
     ensures why { IfErr result (λ e. MayStop bound (vec_len log.new) e.why) }
 {
@@ -35,6 +37,24 @@ pub(crate) fn act(
         return open(alloc, image, debt, session, bound, log);
     }
     perform(alloc, image, debt, step_of(alloc, input), bound, log)
+}
+
+/// Makes what an earlier call left, what is due, and what the spaces owe that the input touches. All that
+/// was touched stays owed.
+pub(crate) fn make_ready(
+    alloc: Global,
+    image: &mut Image,
+    debt: &mut Vec<u64>,
+    input: &Input,
+    bound: Option<u64>,
+    log: &mut Vec<Step>,
+) -> Result<(), Why>
+    ensures goes { Goes image.old image.new debt.old.items debt.new.items log.old.items log.new.items }
+    ensures ready { OnOk result (IsReady image.new debt.new.items input.now) }
+    ensures keeps { KeepsLog image.old image.new bound (vec_len log.old) (vec_len log.new) (vec_capacity log.old - vec_len log.old) (vec_capacity log.new - vec_len log.new) }
+    ensures why { IfErr result (λ w. MayStop bound (vec_len log.new) w) }
+{
+    finish(alloc, image, debt, Some(input), bound, log)
 }
 
 /// Whether the input makes a step. What comes from a closed session is passed over, and so is the
@@ -94,13 +114,14 @@ fn open(
     requires { takes image.old (input.Open session) ≡ true }
     ensures acts { Acts image.old image.new debt.old.items debt.new.items log.old.items log.new.items (input.Open session) result }
     ensures not_done { IfErr result (λ e. e.done ≡ false) }
+    ensures ready { IsDone image.old debt.old.items None → WasFull bound (vec_len log.old) result }
     ensures keeps { KeepsLog image.old image.new bound (vec_len log.old) (vec_len log.new) (vec_capacity log.old - vec_len log.old) (vec_capacity log.new - vec_len log.new) }
     ensures why { IfErr result (λ e. MayStop bound (vec_len log.new) e.why) }
 {
-    if let Err(why) = finish(alloc, image, debt, None, bound, log) {
+    if let Err(why) = finish::<Step>(alloc, image, debt, None, bound, log) {
         return Err(Stopped { why, done: false });
     }
-    match make(alloc, image, Step::Open { session }, bound, log) {
+    match make(alloc, image, Step::Open { session }, None, bound, log) {
         Err(why) => Err(Stopped { why, done: false }),
         Ok(()) => {
             debt.clear();

@@ -1,14 +1,14 @@
 //! The rows that the step of a request gives.
 ghost use Rattle.std.specs.Prelude.{◌≡◌, ◌≤◌, ◌^◌, map, true, None, IfOk, IsTrue};
-ghost use Rattle.jsp_wire.specs.Limits.{has_fitting_parts};
 ghost use Rattle.jsp_model.specs.Limits.{are_rising};
 ghost use Rattle.jsp_model.specs.Refusals.{refusal as refusal_of};
 ghost use Rattle.jsp_model.specs.Requests.{rows_asked};
 ghost use Rattle.jsp_model.specs.Steps.{has_its_rows};
 ghost use Rattle.jsp_model.specs.declared.limits.TheConstants.{LAST_TIME};
 
-use jsp_audit::{choose, refusal, request_for_rows};
+use jsp_audit::{choose, request_for_rows};
 use jsp_model::State;
+use jsp_reply::Refusal;
 use jsp_types::{Items, NoMemory};
 use jsp_wire::Ask;
 use std::alloc::Global;
@@ -21,13 +21,14 @@ pub(crate) fn choose_rows(
     session: u64,
     id: u64,
     ask: &Ask,
+    refused: Option<Refusal>,
 ) -> Result<Items<u64>, NoMemory>
     requires time { state.now.time ≤ LAST_TIME }
     requires rising { IsTrue (are_rising 0 state.now.next_number (map (λ r. r.number) state.now.rows)) }
-    requires fits { IsTrue (has_fitting_parts ask.now) }
+    requires refused { refused ≡ refusal_of state.now session id ask.now }
     ensures { IfOk result (λ ns. has_its_rows state.now session id ns (refusal_of state.now session id ask.now) (rows_asked ask.now) ≡ true) }
 {
-    match refusal(alloc, state, session, id, ask)? {
+    match refused {
         Some(_) => Ok(Items::new(alloc)),
         None => choose_first(alloc, state, session, id, ask),
     }

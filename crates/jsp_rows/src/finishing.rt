@@ -1,43 +1,49 @@
-//! The steps that nobody has to ask for.
-ghost use Rattle.std.specs.Prelude.{◌≡◌, ◌-◌, ◌++◌, ◌∷◌, [], OnOk, OnErr, Some, IfOk, IfErr, IfSome, IfNone, IsTrue, option_copied, vec_len, vec_capacity};
-ghost use Rattle.jsp_model.specs.House.{MayStop, is_unasked};
+//! The steps that nobody has to ask for, also before what is to come.
+ghost use Rattle.std.specs.Prelude.{◌≡◌, ◌-◌, ◌++◌, ◌∷◌, [], OnOk, OnErr, Some, IfOk, IfErr, IfSome, IfNone, IsTrue, IsFalse, option_copied, option_map, vec_len, vec_capacity};
+ghost use Rattle.jsp_model.specs.declared.house.Why.TheVariants as why;
+ghost use Rattle.jsp_model.specs.House.{Covers, Goes, MayStop, is_unasked};
 ghost use Rattle.jsp_model.specs.Limits.{IsWithinLimits};
 ghost use Rattle.jsp_model.specs.Due.{due as due_now};
 ghost use Rattle.jsp_model.specs.Quiet.{are_quiet};
 ghost use Rattle.jsp_model.specs.Touches.{touches as touched_by};
 ghost use Rattle.jsp_model.specs.Steps.{is_legal, next};
 ghost use Rattle.jsp_quiet.specs.Quieting.{quiets};
+ghost use Rattle.jsp_audit.specs.Judging.{refusal_in};
 ghost use Rattle.jsp_rows.specs.Making.{KeepsLog};
-ghost use Rattle.jsp_rows.specs.Owing.{Covers, Goes, IsDone};
+ghost use Rattle.jsp_rows.specs.Owing.{IsDone};
 
 use crate::making::make;
 use crate::owing::owe;
 use crate::quieting::quieting_step;
+use crate::to_come::Coming;
 use crate::unquiet::first_unquiet_of;
 use jsp_audit::{due, touches};
 use jsp_lease::Item;
 use jsp_model::{Image, State, Step, Why};
+use jsp_reply::Refusal;
 use jsp_types::NoMemory;
 use std::alloc::Global;
 
 /// Makes the steps that nobody has to ask for, until each space that is owed, or that the step to
 /// come touches, is quiet and nothing is due. Each space that they touch is owed from then on, so
 /// the debt says of all of them that they are quiet, or what is left where the call is stopped.
-pub(crate) fn finish(
+/// Where all this is so already, no step is made.
+pub(crate) fn finish<T: Coming>(
     alloc: Global,
     image: &mut Image,
     debt: &mut Vec<u64>,
-    to_come: Option<&Step>,
+    to_come: Option<&T>,
     bound: Option<u64>,
     log: &mut Vec<Step>,
 ) -> Result<(), Why>
     ensures goes { Goes image.old image.new debt.old.items debt.new.items log.old.items log.new.items }
-    ensures done { OnOk result (IsDone image.new debt.new.items (option_copied to_come.entry)) }
+    ensures done { OnOk result (IsDone image.new debt.new.items (option_map T.step (option_copied to_come.entry))) }
+    ensures idle { IsDone image.old debt.old.items (option_map T.step (option_copied to_come.entry)) → (vec_len log.new ≡ vec_len log.old) × IfErr result (λ w. w ≡ why.NoMemory) }
     ensures keeps { KeepsLog image.old image.new bound (vec_len log.old) (vec_len log.new) (vec_capacity log.old - vec_len log.old) (vec_capacity log.new - vec_len log.new) }
     ensures why { IfErr result (λ w. MayStop bound (vec_len log.new) w) }
 {
     'steps: while let Some(step) = next_step(alloc, image, debt.as_slice(), to_come)? {
-        make_owing(alloc, image, debt, step, bound, log)?;
+        make_owing(alloc, image, debt, step, None, bound, log)?;
     }
     Ok(())
 }
@@ -48,10 +54,12 @@ pub(crate) fn make_owing(
     image: &mut Image,
     debt: &mut Vec<u64>,
     step: Step,
+    refused: Option<Refusal>,
     bound: Option<u64>,
     log: &mut Vec<Step>,
 ) -> Result<(), Why>
-    requires { IsTrue (is_legal image.old step) }
+    requires legal { IsTrue (is_legal image.old step) }
+    requires refused { refused ≡ refusal_in image.old step }
     ensures made { OnOk result (image.new ≡ next image.old step) }
     ensures log { OnOk result (log.new.items ≡ log.old.items ++ step ∷ []) }
     ensures owes { OnOk result (Covers debt.new.items (touched_by image.old step)) }
@@ -62,21 +70,22 @@ pub(crate) fn make_owing(
 {
     let spaces = touches(alloc, image, &step)?;
     owe(debt, spaces.as_slice())?;
-    make(alloc, image, step, bound, log)
+    make(alloc, image, step, refused, bound, log)
 }
 
 /// The next step that nobody has to ask for: one that quiets a space that is owed; else what is due,
 /// once the spaces that it touches are quiet; else one that quiets a space that the step to come
 /// touches.
-fn next_step(
+fn next_step<T: Coming>(
     alloc: Global,
     image: &Image,
     debt: &[u64],
-    to_come: Option<&Step>,
+    to_come: Option<&T>,
 ) -> Result<Option<Step>, NoMemory>
     ensures legal { IfOk result (λ o. IfSome o (λ s. IsTrue (is_legal image.now s))) }
     ensures unasked { IfOk result (λ o. IfSome o (λ s. IsTrue (is_unasked s))) }
-    ensures none { IfOk result (λ o. IfNone o (IsDone image.now debt.now (option_copied to_come.entry))) }
+    ensures some { IfOk result (λ o. IfSome o (λ s. IsDone image.now debt.now (option_map T.step (option_copied to_come.entry)) → ⊥)) }
+    ensures none { IfOk result (λ o. IfNone o (IsDone image.now debt.now (option_map T.step (option_copied to_come.entry)))) }
 {
     let state = image.state();
     if let Some(step) = quieting_of(alloc, state, debt)? {
@@ -87,7 +96,7 @@ fn next_step(
     }
     match to_come {
         None => Ok(None),
-        Some(step) => quieting_for(alloc, image, step),
+        Some(coming) => quieting_for(alloc, image, coming),
     }
 }
 
@@ -104,13 +113,18 @@ fn ending(alloc: Global, image: &Image, item: Item) -> Result<Step, NoMemory>
     }
 }
 
-/// A step that quiets a space that this step touches.
-fn quieting_for(alloc: Global, image: &Image, step: &Step) -> Result<Option<Step>, NoMemory>
+/// A step that quiets a space that what is to come touches.
+fn quieting_for<T: Coming>(
+    alloc: Global,
+    image: &Image,
+    coming: &T,
+) -> Result<Option<Step>, NoMemory>
     ensures legal { IfOk result (λ o. IfSome o (λ s. IsTrue (is_legal image.now s))) }
     ensures quiets { IfOk result (λ o. IfSome o (λ s. IsTrue (quiets s))) }
-    ensures none { IfOk result (λ o. IfNone o (IsTrue (are_quiet image.now (touched_by image.now step.now)))) }
+    ensures some { IfOk result (λ o. IfSome o (λ s. IsFalse (are_quiet image.now (touched_by image.now (T.step coming.now))))) }
+    ensures none { IfOk result (λ o. IfNone o (IsTrue (are_quiet image.now (touched_by image.now (T.step coming.now))))) }
 {
-    let spaces = touches(alloc, image, step)?;
+    let spaces = coming.touches(alloc, image)?;
     quieting_of(alloc, image.state(), spaces.as_slice())
 }
 
@@ -119,6 +133,7 @@ fn quieting_of(alloc: Global, state: &State, spaces: &[u64]) -> Result<Option<St
     requires { IsWithinLimits state.now }
     ensures legal { IfOk result (λ o. IfSome o (λ s. IsTrue (is_legal state.now s))) }
     ensures quiets { IfOk result (λ o. IfSome o (λ s. IsTrue (quiets s))) }
+    ensures some { IfOk result (λ o. IfSome o (λ s. IsFalse (are_quiet state.now spaces.now))) }
     ensures none { IfOk result (λ o. IfNone o (IsTrue (are_quiet state.now spaces.now))) }
 {
     match first_unquiet_of(state, spaces) {

@@ -18,6 +18,7 @@ mod performing;
 mod quieting;
 mod rows_house;
 mod settling;
+mod to_come;
 mod unquiet;
 
 // What the calls of a house speak of, so that its callers name one crate.

@@ -2,10 +2,12 @@
 ghost use Rattle.std.specs.Prelude.{◌≡◌, ◌<◌, ◌≤◌, ◌+◌, ◌-◌, ◌++◌, ◌∷◌, [], OnOk, OnErr, IfErr, IsTrue, length, vec_len, vec_capacity};
 ghost use Rattle.jsp_model.specs.House.{MayStop, is_full as reaches};
 ghost use Rattle.jsp_model.specs.Steps.{is_legal, next};
+ghost use Rattle.jsp_audit.specs.Judging.{refusal_in};
 ghost use Rattle.jsp_rows.specs.Making.{KeepsLog};
 
-use jsp_audit::apply;
+use jsp_audit::apply_judged;
 use jsp_model::{Image, State, Step, Why};
+use jsp_reply::Refusal;
 use jsp_types::NoMemory;
 use std::alloc::Global;
 
@@ -14,10 +16,12 @@ pub(crate) fn make(
     alloc: Global,
     image: &mut Image,
     step: Step,
+    refused: Option<Refusal>,
     bound: Option<u64>,
     log: &mut Vec<Step>,
 ) -> Result<(), Why>
-    requires { IsTrue (is_legal image.old step) }
+    requires legal { IsTrue (is_legal image.old step) }
+    requires refused { refused ≡ refusal_in image.old step }
     ensures made { OnOk result (image.new ≡ next image.old step) }
     ensures log { OnOk result (log.new.items ≡ log.old.items ++ step ∷ []) }
     ensures err { OnErr result ((image.new ≡ image.old) × (log.new.items ≡ log.old.items)) }
@@ -27,7 +31,7 @@ pub(crate) fn make(
     if is_full(log, bound) {
         return Err(Why::EraFull);
     }
-    make_within(alloc, image, step, log)?;
+    make_within(alloc, image, step, refused, log)?;
     Ok(())
 }
 
@@ -46,9 +50,11 @@ fn make_within(
     alloc: Global,
     image: &mut Image,
     step: Step,
+    refused: Option<Refusal>,
     log: &mut Vec<Step>,
 ) -> Result<(), NoMemory>
-    requires { IsTrue (is_legal image.old step) }
+    requires legal { IsTrue (is_legal image.old step) }
+    requires refused { refused ≡ refusal_in image.old step }
     ensures made { OnOk result (image.new ≡ next image.old step) }
     ensures log { OnOk result (log.new.items ≡ log.old.items ++ step ∷ []) }
     ensures err { OnErr result ((image.new ≡ image.old) × (log.new.items ≡ log.old.items)) }
@@ -58,7 +64,7 @@ fn make_within(
     ensures same { OnErr result (vec_len log.new ≡ vec_len log.old) }
 {
     reserve_places(image.state(), log)?;
-    apply(alloc, image, &step)?;
+    apply_judged(alloc, image, &step, refused)?;
     enter(log, step);
     Ok(())
 }

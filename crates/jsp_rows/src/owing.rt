@@ -1,7 +1,7 @@
 //! The spaces that are still to be made quiet.
 ghost use Rattle.std.specs.Prelude.{◌≡◌, OnOk, IsTrue};
 ghost use Rattle.jsp_model.specs.Lookup.{contains as has};
-ghost use Rattle.jsp_rows.specs.Owing.{Covers};
+ghost use Rattle.jsp_model.specs.House.{Covers};
 
 use jsp_state::contains;
 use jsp_types::NoMemory;

@@ -1,17 +1,28 @@
 //! A step that was asked for, with all that goes before it and follows from it.
 ghost use Rattle.std.specs.Prelude.{◌≡◌, ◌≤◌, ◌^◌, ◌-◌, ◌++◌, ◌∷◌, [], true, false, None, Some, OnOk, OnErr, IfOk, IfErr, IsTrue, vec_len, vec_capacity};
-ghost use Rattle.jsp_model.specs.House.{MayStop, Finishes, bare, is_unasked};
+ghost use Rattle.jsp_model.specs.declared.house.Why.TheVariants as why;
+ghost use Rattle.jsp_model.specs.House.{Covers, MayStop, WasFull, Finishes, bare, is_unasked};
 ghost use Rattle.jsp_model.specs.Limits.{IsWithinLimits};
 ghost use Rattle.jsp_model.specs.Touches.{touches as touched_by};
 ghost use Rattle.jsp_model.specs.Steps.{next};
+ghost use Rattle.jsp_audit.specs.Judging.{refusal_in};
 ghost use Rattle.jsp_rows.specs.Making.{KeepsLog, Performs, MakesOwn, may_come, has_rows};
-ghost use Rattle.jsp_rows.specs.Owing.{Covers, IsDone};
+ghost use Rattle.jsp_rows.specs.Owing.{IsDone};
 
 use crate::choosing::choose_rows;
 use crate::finishing::{finish, make_owing};
+use jsp_audit::refusal;
 use jsp_model::{Image, State, Step, Stopped, Why};
+use jsp_reply::Refusal;
 use jsp_types::NoMemory;
 use std::alloc::Global;
+
+/// A step that was asked for, with its rows, and why its request is refused, where it is.
+#[derive(Drop)]
+struct Own {
+    step: Step,
+    refused: Option<Refusal>,
+}
 
 /// Quiets what the step touches, makes it, and then what follows from it by itself.
 pub(crate) fn perform(
@@ -25,6 +36,7 @@ pub(crate) fn perform(
     requires may_come { IsTrue (may_come image.old step) }
     requires bare { bare step ≡ step }
     ensures performs { Performs image.old image.new debt.old.items debt.new.items log.old.items log.new.items step result }
+    ensures ready { IsDone image.old debt.old.items (Some step) → WasFull bound (vec_len log.old) result }
     ensures keeps { KeepsLog image.old image.new bound (vec_len log.old) (vec_len log.new) (vec_capacity log.old - vec_len log.old) (vec_capacity log.new - vec_len log.new) }
     ensures why { IfErr result (λ e. MayStop bound (vec_len log.new) e.why) }
 {
@@ -54,26 +66,32 @@ fn make_own(
     ensures keeps { KeepsLog image.old image.new bound (vec_len log.old) (vec_len log.new) (vec_capacity log.old - vec_len log.old) (vec_capacity log.new - vec_len log.new) }
     ensures why { IfErr result (λ w. MayStop bound (vec_len log.new) w) }
 {
-    let step = with_rows(alloc, image.state(), step)?;
-    make_owing(alloc, image, debt, step, bound, log)
+    let own = with_rows(alloc, image.state(), step)?;
+    make_owing(alloc, image, debt, own.step, own.refused, bound, log)
 }
 
 /// The step, and the rows that its request is given.
-fn with_rows(alloc: Global, state: &State, step: Step) -> Result<Step, NoMemory>
+fn with_rows(alloc: Global, state: &State, step: Step) -> Result<Own, NoMemory>
     requires { IsWithinLimits state.now }
-    ensures same { IfOk result (λ s. bare s ≡ bare step) }
-    ensures rows { IfOk result (λ s. has_rows state.now s ≡ true) }
+    ensures same { IfOk result (λ own. bare own.step ≡ bare step) }
+    ensures rows { IfOk result (λ own. has_rows state.now own.step ≡ true) }
+    ensures refused { IfOk result (λ own. own.refused ≡ refusal_in state.now own.step) }
 {
     match step {
         Step::Ask { session, asked, .. } => {
-            let rows = choose_rows(alloc, state, session, asked.id(), asked.ask())?;
-            Ok(Step::Ask {
+            let refused = refusal(alloc, state, session, asked.id(), asked.ask())?;
+            let rows = choose_rows(alloc, state, session, asked.id(), asked.ask(), refused)?;
+            let step = Step::Ask {
                 session,
                 asked,
                 rows,
-            })
+            };
+            Ok(Own { step, refused })
         }
-        other => Ok(other),
+        other => Ok(Own {
+            step: other,
+            refused: None,
+        }),
     }
 }
 
@@ -88,10 +106,11 @@ pub(crate) fn clear(
 ) -> Result<(), Stopped>
     ensures finishes { Finishes image.old image.new debt.old.items debt.new.items log.old.items log.new.items result }
     ensures done { IfErr result (λ e. e.done ≡ done) }
+    ensures idle { IsDone image.old debt.old.items None → IfErr result (λ e. e.why ≡ why.NoMemory) }
     ensures keeps { KeepsLog image.old image.new bound (vec_len log.old) (vec_len log.new) (vec_capacity log.old - vec_len log.old) (vec_capacity log.new - vec_len log.new) }
     ensures why { IfErr result (λ e. MayStop bound (vec_len log.new) e.why) }
 {
-    match finish(alloc, image, debt, None, bound, log) {
+    match finish::<Step>(alloc, image, debt, None, bound, log) {
         Err(why) => Err(Stopped { why, done }),
         Ok(()) => {
             debt.clear();

@@ -4,12 +4,12 @@ ghost use Rattle.jsp_model.specs.Lookup.{empty};
 ghost use Rattle.jsp_quiet.specs.Steady.{IsSteady};
 ghost use Rattle.jsp_quiet.specs.Props.{IsSteady-prop};
 
-use crate::acting::act;
+use crate::acting::{act, make_ready};
 use crate::answering::{answer, close, next_waiting};
 use crate::performing::clear;
-use crate::settling::settle;
+use crate::settling::{all_quiet, settle, turn};
 use jsp_audit::{empty_image, is_open};
-use jsp_model::{Config, House, Image, Input, Settled, Step, Stopped};
+use jsp_model::{Config, House, Image, Input, Settled, Step, Stopped, Why};
 use jsp_reply::Said;
 use jsp_types::NoMemory;
 use std::alloc::Global;
@@ -49,6 +49,17 @@ impl House for RowsHouse {
     ghost debt = { λ h. h.debt.items };
 
     ghost bound_of = { λ h. h.bound };
+
+    fn make_ready(&mut self, input: &Input, log: &mut Vec<Step>) -> Result<(), Why> {
+        make_ready(
+            self.alloc,
+            &mut self.image,
+            &mut self.debt,
+            input,
+            self.bound,
+            log,
+        )
+    }
 
     fn act(&mut self, input: Input, log: &mut Vec<Step>) -> Result<(), Stopped> {
         act(
@@ -103,6 +114,14 @@ impl House for RowsHouse {
 
     fn is_voting(&self) -> bool {
         !self.image.state().commits.as_slice().is_empty()
+    }
+
+    fn turn(&self) -> Option<Settled> {
+        turn(self.image.state())
+    }
+
+    fn is_quiet(&self) -> bool {
+        all_quiet(self.image.state())
     }
 
     fn image(&self) -> Result<Image, NoMemory> {

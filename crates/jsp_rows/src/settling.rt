@@ -1,12 +1,11 @@
 //! What a settle turn does.
 ghost use Rattle.std.specs.Prelude.{◌≡◌, ◌-◌, None, Some, IfErr, option_copied, find, is_none, vec_len, vec_capacity};
 ghost use Rattle.std.specs.List.{list_any};
-ghost use Rattle.jsp_model.specs.House.{MayStop, Settles};
+ghost use Rattle.jsp_model.specs.House.{MayStop, Settles, answer_to, next_turn as answers_next};
 ghost use Rattle.jsp_model.specs.Settling.{settle_step as next_turn, turn_of as turn, turn_at, first_unquiet as first_of_all};
 ghost use Rattle.jsp_model.specs.Steps.{is_vote_to_abort as says_to_abort};
 ghost use Rattle.jsp_quiet.specs.Steady.{IsSteady};
 ghost use Rattle.jsp_rows.specs.Making.{KeepsLog};
-ghost use Rattle.jsp_rows.specs.Settling.{answer_to};
 
 use crate::owing::owe;
 use crate::performing::{clear, perform};
@@ -40,6 +39,23 @@ pub(crate) fn settle(
             }
         }
     }
+}
+
+/// What the next settle turn answers, if a transaction votes.
+pub(crate) fn turn(state: &State) -> Option<Settled>
+    ensures { result ≡ answers_next state.now }
+{
+    match settle_step(state) {
+        None => None,
+        Some(step) => Some(answer_of(&step)),
+    }
+}
+
+/// Whether every space is quiet.
+pub(crate) fn all_quiet(state: &State) -> bool
+    ensures { result ≡ is_none (first_of_all state.now) }
+{
+    first_unquiet(state).is_none()
 }
 
 fn answer_of(step: &Step) -> Settled

@@ -1,6 +1,6 @@
 //! A server on a listener.
 ghost use Rattle.std.specs.Prelude.{◌≤◌, IfOk};
-ghost use Rattle.jsp_floor.specs.Closing.{Closes};
+ghost use Rattle.jsp_closing.specs.Closing.{Closes};
 
 use crate::connections::Connections;
 use jsp_floor::{Clock, Closed, Gate, RunFault, run_house};

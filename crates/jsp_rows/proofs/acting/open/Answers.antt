@@ -8,8 +8,8 @@ pub returns-in-Err-clause-acts : goal.returns-in-Err-clause-acts
 returns-in-Err-clause-acts c =
     opens_stopped c.args.image.now c.finish.new.image c.args.debt.now.items c.finish.new.debt.items c.args.log.now.items c.finish.new.log.items (input.Open c.args.session) _ refl c.finish.ensures.goes
 
-pub make-requires : goal.make-requires
-make-requires c = open_legal c.args.image.now c.finish.new.image c.args.debt.now.items c.finish.new.debt.items c.args.log.now.items c.finish.new.log.items c.args.session c.finish.ensures.goes c.requires
+pub make-requires-clause-legal : goal.make-requires-clause-legal
+make-requires-clause-legal c = open_legal c.args.image.now c.finish.new.image c.args.debt.now.items c.finish.new.debt.items c.args.log.now.items c.finish.new.log.items c.args.session c.finish.ensures.goes c.requires
 
 pub returns-in-Err-make-clause-acts : goal.returns-in-Err-make-clause-acts
 returns-in-Err-make-clause-acts c =

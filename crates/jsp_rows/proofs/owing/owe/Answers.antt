@@ -1,8 +1,9 @@
 use Rattle.std.proofs.Common.{◌≡◌, ◌+◌, ◌∙◌, refl, take}
 use Rattle.std.proofs.lemmas.List.Folds.{list_all_more}
 use Rattle.jsp_model.specs.Lookup.{contains}
-use Rattle.jsp_rows.specs.Owing.{Covers}
-use Rattle.jsp_rows.proofs.Going.{covers_itself, covers_more}
+use Rattle.jsp_model.specs.House.{Covers}
+use Rattle.jsp_quiet.proofs.Covering.{covers_more}
+use Rattle.jsp_rows.proofs.Going.{covers_itself}
 use Rattle.jsp_rows.proofs.owing.owe.Goals as goal
 
 pub loop-space-init : goal.loop-space-init

@@ -1,5 +1,5 @@
 use Rattle.std.proofs.Common.{take}
-use Rattle.jsp_rows.specs.Owing.{Covers}
+use Rattle.jsp_model.specs.House.{Covers}
 use Rattle.jsp_rows.proofs.owing.owe.Given as goal
 
 abbrev pub invariant-loop-space : goal.invariant-loop-space

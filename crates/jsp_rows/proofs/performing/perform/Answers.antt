@@ -1,5 +1,5 @@
 use Rattle.std.proofs.Common.{refl}
-use Rattle.jsp_rows.proofs.Coming.{may_still_come, free_run_leaves, goes_still}
+use Rattle.jsp_rows.proofs.Coming.{goes_still}
 use Rattle.jsp_rows.proofs.Going.{goes_none}
 use Rattle.jsp_rows.proofs.PerformingSteps.{performs_none, performs_all}
 use Rattle.jsp_rows.proofs.performing.perform.Goals as goal

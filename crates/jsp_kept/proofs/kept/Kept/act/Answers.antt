@@ -1,32 +1,44 @@
-use Rattle.std.proofs.Common.{rules, ◌≡◌, ◌<◌, ◌-◌, ◌∙◌, length, refl, ap}
+use Rattle.std.proofs.Common.{rules, ◌≡◌, true, refl, sym, subst, ap, Ok, Err}
 use Rattle.jsp_model.specs.declared.house.Input.{Input}
-use Rattle.jsp_model.specs.House.{acted, own_of}
+use Rattle.jsp_model.specs.declared.house.Stopped.{Stopped}
+use Rattle.jsp_model.specs.House.{acted}
 use Rattle.jsp_model.specs.Lookup.{is_open}
 use Rattle.jsp_drive.specs.Line.{input_of}
-use Rattle.jsp_kept.specs.Calls.{made}
-use Rattle.jsp_kept.proofs.Owns.{CountsAsk, act_own}
-use Rattle.jsp_kept.proofs.Counting.{whole_by_ask}
+use Rattle.jsp_kept.specs.Eras.{Performs}
+use Rattle.jsp_kept.proofs.Owns.{line_is_of}
+use Rattle.jsp_kept.proofs.Growing.{performs_unmade, asks_then}
+use Rattle.jsp_kept.proofs.Passing.{acted_then, acted_on, raises_none, raises_then, raises_on}
 use Rattle.jsp_kept.proofs.kept.Kept.act.Goals as goal
 
-pub invariant_of-self : goal.invariant_of-self
-invariant_of-self g c =
-    let acts = c.act-result.ensures.acts in
-    let st = g.H.House.view c.self.inside.house in
-    let s = c.seat.inside.session in
-    let r = c.act-result.result in
-    let by : c.own_steps-by.result ≡ made (is_open st s) r = c.own_steps-by.ensures ∙ ap (λ b. made b r) c.is_open-open.ensures in
-    let own : own_of acts.steps ≡ acted st (input_of s c.args.given) r = acts.own ∙ ap (λ (x : Input). acted st x r) c.of_session.ensures.value in
-    let within : s - 1 < length c.self.inside.asked.items = search rules in
-    let counts : CountsAsk (own_of acts.steps) s c.own_steps-by.result = rw (by, own) (act_own st s c.args.given r) in
-    whole_by_ask _ _ _ _ acts.steps _ _ s c.own_steps-by.result c.self.invariant
-    (record {
-      era = record { spaces = refl; base = refl; asked_before = refl; taken_before = refl; era = refl; is_sealed = refl };
-      makes = acts.makes;
-      room = c.act-result.ensures.room;
-      bound = c.act-result.ensures.bound;
-      before_is = search rules;
-      after_is = search rules;
-      limit = refl;
-      shares = record { asks_parts = refl; asks_amount = refl; outs_parts = refl; outs_amount = refl };
-    })
-    counts c.seat.invariant.2 within c.raise.ensures c.add.ensures.total (record { taken = refl; book = refl }) refl refl
+pub returns-in-Err-clause-performs : goal.returns-in-Err-clause-performs
+returns-in-Err-clause-performs g c = λ lawful. performs_unmade _ _ (input_of c.args.seat.now.session c.args.given) c.unmade-in-Err.result (ap (λ (e : Stopped). e.done) c.unmade-in-Err.ensures) c.make_ready.ensures.prepares
+
+pub returns-in-Err-clause-counts : goal.returns-in-Err-clause-counts
+returns-in-Err-clause-counts g c = λ lawful. raises_none _ _ c.args.seat.now (is_open c.args.self.now.state c.args.seat.now.session) c.unmade-in-Err.result (ap (λ (e : Stopped). e.done) c.unmade-in-Err.ensures) c.make_ready.ensures.asks
+
+pub returns-in-Ok-clause-performs : goal.returns-in-Ok-clause-performs
+returns-in-Ok-clause-performs g c =
+    let is : c.of_session-input.result ≡ input_of c.args.seat.now.session c.args.given = rw (← c.seat.view_is) c.of_session-input.ensures.value in
+    λ lawful. subst (λ (x : Input). Performs c.args.self.now c.act_in_era.new.self (acted {A = Unit {0}} c.args.self.now.state x (Ok tt)) (Ok tt)) is (acted_then _ _ _ c.of_session-input.result (Ok tt) c.make_ready.ensures.prepares c.in-Ok.ensures.performs)
+
+pub returns-in-Ok-clause-counts : goal.returns-in-Ok-clause-counts
+returns-in-Ok-clause-counts g c = λ lawful. raises_then _ _ _ _ _ (Ok tt) c.make_ready.ensures.prepares c.make_ready.ensures.asks c.in-Ok.ensures.counts
+
+pub returns-in-Err-act_in_era-clause-performs : goal.returns-in-Err-act_in_era-clause-performs
+returns-in-Err-act_in_era-clause-performs g c =
+    let e = c.in-Err-act_in_era.stopped in
+    let done : e.done ≡ true = search rules in
+    let is : c.of_session-input.result ≡ input_of c.args.seat.now.session c.args.given = rw (← c.seat.view_is) c.of_session-input.ensures.value in
+    λ lawful. subst (λ (x : Input). Performs c.args.self.now c.go_on.new.self (acted c.args.self.now.state x c.go_on.result) c.go_on.result) is
+    (acted_on _ _ _ c.of_session-input.result e c.go_on.result done (acted_then _ _ _ c.of_session-input.result (Err e) c.make_ready.ensures.prepares c.in-Err-act_in_era.ensures.performs) c.go_on.ensures.performs c.go_on.ensures.err)
+
+pub returns-in-Err-act_in_era-clause-counts : goal.returns-in-Err-act_in_era-clause-counts
+returns-in-Err-act_in_era-clause-counts g c =
+    let e = c.in-Err-act_in_era.stopped in
+    let done : e.done ≡ true = search rules in
+    λ lawful. raises_on _ _ _ _ _ e c.go_on.result done c.go_on.ensures.err (raises_then _ _ _ _ _ (Err e) c.make_ready.ensures.prepares c.make_ready.ensures.asks c.in-Err-act_in_era.ensures.counts) c.go_on.ensures.asks
+
+pub returns-in-Err-2-clause-performs : goal.returns-in-Err-2-clause-performs
+returns-in-Err-2-clause-performs g c =
+    let is : c.of_session-input.result ≡ input_of c.args.seat.now.session c.args.given = rw (← c.seat.view_is) c.of_session-input.ensures.value in
+    λ lawful. subst (λ (x : Input). Performs c.args.self.now c.act_in_era.new.self (acted {A = Unit {0}} c.args.self.now.state x (Err c.in-Err-act_in_era.stopped)) (Err c.in-Err-act_in_era.stopped)) is (acted_then _ _ _ c.of_session-input.result (Err c.in-Err-act_in_era.stopped) c.make_ready.ensures.prepares c.in-Err-act_in_era.ensures.performs)

@@ -1,51 +1,39 @@
-use Rattle.std.proofs.Common.{rules, ◌≡◌, ◌+◌, ◌<◌, ◌^◌, ◌++◌, ◌∷◌, [], ◌∙◌, refl, sym, ap, subst}
-use Rattle.jsp_model.specs.House.{was_done}
+use Rattle.std.proofs.Common.{rules, ◌≡◌, ◌+◌, ◌∙◌, refl, sym, ap}
+use Rattle.std.proofs.lemmas.Result.{IfOk-weaker}
 use Rattle.jsp_model.specs.declared.house.Input.TheVariants as input
 use Rattle.jsp_model.specs.declared.house.Stopped.{Stopped}
-use Rattle.jsp_kept.proofs.Owns.{IsUncounted}
-use Rattle.jsp_kept.proofs.Counting.{whole_quietly}
-use Rattle.jsp_kept.proofs.Keeping.{stays_within}
-use Rattle.jsp_kept.proofs.Begun.{idle_acts, undone_open, undone_counts, accepts_next, opens_only, grows_by_open, whole_begun}
+use Rattle.jsp_kept.proofs.Growing.{performs_unmade, prepares_none, asks_then, outs_then}
+use Rattle.jsp_kept.proofs.Turning.{prepares_leaves}
+use Rattle.jsp_kept.proofs.Passing.{begins_then, err_then, not_begun, opens_then, undone_begun}
 use Rattle.jsp_kept.proofs.kept.Kept.begin.Goals as goal
 
-pub returns-then-last-ge-SESSIONS-clause-acts : goal.returns-then-last-ge-SESSIONS-clause-acts
-returns-then-last-ge-SESSIONS-clause-acts g c = idle_acts _ _ _ _ _ (ap (λ (e : Stopped). e.done) c.stopped.ensures)
+pub returns-then-last-ge-SESSIONS-clause-performs : goal.returns-then-last-ge-SESSIONS-clause-performs
+returns-then-last-ge-SESSIONS-clause-performs g c = performs_unmade _ _ (input.Open (c.args.self.now.state.last_session + 1)) c.unmade.result (ap (λ (e : Stopped). e.done) c.unmade.ensures) (prepares_none c.args.self.now)
 
-pub invariant_of-self-in_err-act : goal.invariant_of-self-in_err-act
-invariant_of-self-in_err-act g c =
-    let acts = c.act.ensures.acts in
-    let st = g.H.House.view c.self.inside.house in
-    let s = c.len-last.result + 1 in
-    let none = subst IsUncounted (sym acts.own) (undone_counts st (input.Open s) c.act.result _ c.in_err-act.was (undone_open s c.act.result _ c.in_err-act.was c.act.ensures.opens)) in
-    whole_quietly _ _ _ _ acts.steps _ _ c.self.invariant
-    (record {
-      era = record { spaces = refl; base = refl; asked_before = refl; taken_before = refl; era = refl; is_sealed = refl };
-      makes = acts.makes;
-      room = c.act.ensures.room;
-      bound = c.act.ensures.bound;
-      before_is = search rules;
-      after_is = search rules;
-      limit = refl;
-      shares = record { asks_parts = refl; asks_amount = refl; outs_parts = refl; outs_amount = refl };
-    })
-    none (record { asked = c.reserve_both.ensures.asked; book = refl }) (record { taken = c.reserve_both.ensures.taken; book = refl }) refl refl
+pub returns-in-Err-clause-performs : goal.returns-in-Err-clause-performs
+returns-in-Err-clause-performs g c = performs_unmade _ _ (input.Open (c.args.self.now.state.last_session + 1)) c.unmade-in-Err.result (ap (λ (e : Stopped). e.done) c.unmade-in-Err.ensures) c.make_ready.ensures.prepares
 
-pub invariant_of-self-2 : goal.invariant_of-self-2
-invariant_of-self-2 g c =
-    let acts = c.act.ensures.acts in
-    let st = g.H.House.view c.self.inside.house in
-    let s = c.len-last.result + 1 in
-    let is : s ≡ st.last_session + 1 = (let small = c.if-last-ge-SESSIONS.false in let askers = c.self.invariant.kept.askers in search rules) in
-    let low : st.last_session < 2 ^ 31 = (let small = c.if-last-ge-SESSIONS.false in let askers = c.self.invariant.kept.askers in search rules) in
-    let own = acts.own ∙ opens_only st s c.act.result (accepts_next st s is low) (ap was_done c.in_ok-act.was) in
-    whole_begun _ _ _ _ acts.steps s c.self.invariant (record { spaces = refl; base = refl; asked_before = refl; taken_before = refl; era = refl; is_sealed = refl }) acts.makes own
-    (grows_by_open _ _ s c.self.invariant.kept is
-    (c.push_reserved.ensures.items ∙ ap (λ xs. xs ++ 0 ∷ []) c.reserve_both.ensures.asked) refl
-    (c.push_reserved-2.ensures.items ∙ ap (λ xs. xs ++ 0 ∷ []) c.reserve_both.ensures.taken) refl)
-    is
-    (stays_within _ _ _ _ acts.steps _ _ c.self.invariant (record { spaces = refl; base = refl; asked_before = refl; taken_before = refl; era = refl; is_sealed = refl }) acts.makes (rw own refl) c.act.ensures.room c.act.ensures.bound (search rules) (search rules) refl)
-    c.split_off.ensures.parts_left c.split_off-2.ensures.parts_left c.split_off.ensures.amount_left c.split_off-2.ensures.amount_left
-    c.self.invariant.asks_sum c.self.invariant.outs_sum
+pub open_in_era-requires-clause-next : goal.open_in_era-requires-clause-next
+open_in_era-requires-clause-next g c =
+    let is : c.len-last.result + 1 ≡ c.args.self.now.state.last_session + 1 = rw (← c.self.view_is) (let askers = c.self.invariant.kept.askers in search rules) in
+    is ∙ ap (λ n. n + 1) (sym (prepares_leaves _ _ c.make_ready.ensures.prepares).last_session)
 
-pub returns-in-Err-clause-acts : goal.returns-in-Err-clause-acts
-returns-in-Err-clause-acts g c = rw (← c.self.view_is) (idle_acts _ _ _ _ _ (ap (λ (e : Stopped). e.done) c.stopped-in-Err.ensures))
+pub returns-clause-performs : goal.returns-clause-performs
+returns-clause-performs g c =
+    let is : c.len-last.result + 1 ≡ c.args.self.now.state.last_session + 1 = rw (← c.self.view_is) (let askers = c.self.invariant.kept.askers in search rules) in
+    opens_then _ _ _ _ c.open_in_era.result c.make_ready.ensures.prepares is c.open_in_era.ensures.performs
+
+pub returns-clause-begins : goal.returns-clause-begins
+returns-clause-begins g c = IfOk-weaker c.open_in_era.result _ _ (λ s b. begins_then _ _ _ _ _ c.make_ready.ensures.prepares c.make_ready.ensures.asks c.make_ready.ensures.outs b) c.open_in_era.ensures.begins
+
+pub returns-clause-not_done : goal.returns-clause-not_done
+returns-clause-not_done g c = undone_begun c.open_in_era.result c.open_in_era.ensures.err
+
+pub returns-clause-why : goal.returns-clause-why
+returns-clause-why g c = not_begun c.args.self.now c.open_in_era.result c.open_in_era.ensures.err
+
+pub returns-clause-asks : goal.returns-clause-asks
+returns-clause-asks g c = err_then c.open_in_era.result c.open_in_era.ensures.asks (λ a. asks_then _ _ _ c.make_ready.ensures.asks a)
+
+pub returns-clause-outs : goal.returns-clause-outs
+returns-clause-outs g c = err_then c.open_in_era.result c.open_in_era.ensures.outs (λ a. outs_then _ _ _ c.make_ready.ensures.outs a)

@@ -1,21 +1,22 @@
-use Rattle.std.proofs.Common.{rules, refl, subst, sym}
-use Rattle.jsp_kept.proofs.Owns.{IsUncounted, clock_own}
-use Rattle.jsp_kept.proofs.Counting.{whole_quietly}
+use Rattle.std.proofs.Common.{rules, ◌≡◌, true, refl, ap, Ok, Err}
+use Rattle.jsp_model.specs.declared.house.Input.TheVariants as input
+use Rattle.jsp_model.specs.declared.house.Stopped.{Stopped}
+use Rattle.jsp_kept.proofs.Growing.{performs_unmade}
+use Rattle.jsp_kept.proofs.Passing.{acted_then, acted_on}
 use Rattle.jsp_kept.proofs.kept.Kept.clock.Goals as goal
 
-pub invariant_of-self : goal.invariant_of-self
-invariant_of-self g c =
-    let acts = c.act.ensures.acts in
-    whole_quietly _ _ _ _ acts.steps _ _ c.self.invariant
-    (record {
-      era = record { spaces = refl; base = refl; asked_before = refl; taken_before = refl; era = refl; is_sealed = refl };
-      makes = acts.makes;
-      room = c.act.ensures.room;
-      bound = c.act.ensures.bound;
-      before_is = search rules;
-      after_is = search rules;
-      limit = refl;
-      shares = record { asks_parts = refl; asks_amount = refl; outs_parts = refl; outs_amount = refl };
-    })
-    (subst IsUncounted (sym acts.own) (clock_own (g.H.House.view c.self.inside.house) c.args.time c.act.result))
-    (record { asked = refl; book = refl }) (record { taken = refl; book = refl }) refl refl
+pub returns-in-Err-clause-performs : goal.returns-in-Err-clause-performs
+returns-in-Err-clause-performs g c = performs_unmade _ _ (input.Clock c.args.time) c.unmade.result (ap (λ (e : Stopped). e.done) c.unmade.ensures) c.make_ready.ensures.prepares
+
+pub returns-in-Ok-clause-performs : goal.returns-in-Ok-clause-performs
+returns-in-Ok-clause-performs g c = acted_then _ _ _ (input.Clock c.args.time) (Ok tt) c.make_ready.ensures.prepares c.in-Ok.ensures.performs
+
+pub returns-in-Err-clock_in_era-clause-performs : goal.returns-in-Err-clock_in_era-clause-performs
+returns-in-Err-clock_in_era-clause-performs g c =
+    let e = c.in-Err-clock_in_era.stopped in
+    let done : e.done ≡ true = search rules in
+    acted_on _ _ _ (input.Clock c.args.time) e c.go_on.result done
+    (acted_then _ _ _ (input.Clock c.args.time) (Err e) c.make_ready.ensures.prepares c.in-Err-clock_in_era.ensures.performs) c.go_on.ensures.performs c.go_on.ensures.err
+
+pub returns-in-Err-2-clause-performs : goal.returns-in-Err-2-clause-performs
+returns-in-Err-2-clause-performs g c = acted_then _ _ _ (input.Clock c.args.time) (Err c.in-Err-clock_in_era.stopped) c.make_ready.ensures.prepares c.in-Err-clock_in_era.ensures.performs

@@ -1,24 +1,14 @@
-use Rattle.std.proofs.Common.{rules, ◌≡◌, ◌<◌, ◌-◌, length, refl}
-use Rattle.jsp_model.specs.House.{handed_out}
-use Rattle.jsp_kept.proofs.Owns.{hand_out_own}
-use Rattle.jsp_kept.proofs.Counting.{whole_by_out}
+use Rattle.std.proofs.Common.{◌≡◌, [], refl}
+use Rattle.std.proofs.lemmas.Result.{IfOk-weaker}
+use Rattle.jsp_kept.proofs.Growing.{grows_then}
+use Rattle.jsp_kept.proofs.Passing.{err_then}
 use Rattle.jsp_kept.proofs.kept.Kept.hand_out.Goals as goal
 
-pub invariant_of-self-2 : goal.invariant_of-self-2
-invariant_of-self-2 g c =
-    let s = c.seat.inside.session in
-    let n = length c.in_ok-answers.answers.items in
-    let count : c.len-count.result ≡ n = search rules in
-    let within : s - 1 < length c.self.inside.taken.items = search rules in
-    whole_by_out _ _ _ _ (handed_out s n) _ _ s n c.self.invariant
-    (record {
-      era = record { spaces = refl; base = refl; asked_before = refl; taken_before = refl; era = refl; is_sealed = refl };
-      makes = c.in_ok-answers.ensures.steps;
-      room = c.hand_out.ensures.room;
-      bound = c.hand_out.ensures.bound;
-      before_is = search rules;
-      after_is = search rules;
-      limit = refl;
-      shares = record { asks_parts = refl; asks_amount = refl; outs_parts = refl; outs_amount = refl };
-    })
-    (hand_out_own s n) c.seat.invariant.2 within (rw (← count) c.raise.ensures) (rw (← count) c.add.ensures.total) (record { asked = refl; book = refl }) refl (rw (← count) refl)
+pub returns-in-Err-clause-err : goal.returns-in-Err-clause-err
+returns-in-Err-clause-err g c = (c.make_place.ensures.grows, c.make_place.ensures.outs, refl)
+
+pub returns-clause-steps : goal.returns-clause-steps
+returns-clause-steps g c = IfOk-weaker c.hand_out_in_era.result _ _ (λ v q. grows_then _ _ _ [] _ c.make_place.ensures.grows q) c.hand_out_in_era.ensures.steps
+
+pub returns-clause-err : goal.returns-clause-err
+returns-clause-err g c = err_then c.hand_out_in_era.result c.hand_out_in_era.ensures.err (λ p. (rw p.0 c.make_place.ensures.grows, rw p.0 c.make_place.ensures.outs, p.1))

@@ -1,21 +1,11 @@
-use Rattle.std.proofs.Common.{rules, refl, subst, sym}
-use Rattle.jsp_kept.proofs.Owns.{IsUncounted, settle_own}
-use Rattle.jsp_kept.proofs.Counting.{whole_quietly}
+use Rattle.jsp_kept.proofs.Turning.{votes_then}
 use Rattle.jsp_kept.proofs.kept.Kept.settle.Goals as goal
 
-pub invariant_of-self : goal.invariant_of-self
-invariant_of-self g c =
-    let settles = c.settle.ensures.settles in
-    whole_quietly _ _ _ _ settles.steps _ _ c.self.invariant
-    (record {
-      era = record { spaces = refl; base = refl; asked_before = refl; taken_before = refl; era = refl; is_sealed = refl };
-      makes = settles.makes;
-      room = c.settle.ensures.room;
-      bound = c.settle.ensures.bound;
-      before_is = search rules;
-      after_is = search rules;
-      limit = refl;
-      shares = record { asks_parts = refl; asks_amount = refl; outs_parts = refl; outs_amount = refl };
-    })
-    (subst IsUncounted (sym settles.own) (settle_own (g.H.House.view c.self.inside.house) c.settle.result))
-    (record { asked = refl; book = refl }) (record { taken = refl; book = refl }) refl refl
+pub returns-in-None-clause-performs : goal.returns-in-None-clause-performs
+returns-in-None-clause-performs g c = votes_then _ _ _ c.quiet_next.result c.make_place.ensures.prepares c.quiet_next.ensures.performs
+
+pub returns-in-Some-clause-performs : goal.returns-in-Some-clause-performs
+returns-in-Some-clause-performs g c = votes_then _ _ _ c.vote.result c.make_place.ensures.prepares c.vote.ensures.performs
+
+pub returns-in-Some-clause-answers : goal.returns-in-Some-clause-answers
+returns-in-Some-clause-answers g c = rw (← c.make_place.ensures.state) c.vote.ensures.answers

@@ -1,0 +1,40 @@
+-- A history that its lines show to be right.
+use Rattle.std.proofs.Common.{◌≡◌, ℕ, ◌+◌, List, length, sym, inl, inr}
+use Rattle.jsp_model.specs.declared.state.State.{State}
+use Rattle.jsp_model.specs.declared.step.Step.{Step}
+use Rattle.jsp_model.specs.Lookup.{empty}
+use Rattle.jsp_model.specs.Runs.{IsRun, state_after, said_in}
+use Rattle.jsp_laws.specs.Runs.{LawsOfRuns}
+use Rattle.jsp_closing.specs.declared.closed.LineReport.{LineReport}
+use Rattle.jsp_closing.specs.Lines.{IsLine}
+use Rattle.jsp_closing.specs.Leaving.{AsksIn, AllAsk}
+use Rattle.jsp_closing.specs.Writing.{IsWritten, AreWritten}
+use Rattle.jsp_closing.specs.Closing.{IsAtRest, IsWhole}
+
+is_line : (s : ℕ) (st : State) (steps : List Step) (line : LineReport) → AsksIn s steps (state_after st steps) line → IsWritten s (said_in st steps) line → IsLine s st steps line
+is_line s st steps line asks writes = record {
+  session = asks.session;
+  left = asks.says.left;
+  too_long = asks.says.too_long;
+  asked = asks.says.says;
+  all_asked = λ sound. elim (asks.may_leave sound) [
+    | inl none ↦ inl (asks.says.nothing none)
+    | inr itself ↦ inr (record { closed = itself.0; not_shut = itself.1 })
+  ];
+  written = writes.begins;
+  all_written = writes.all;
+  ended = asks.ended;
+}
+
+pub is_whole : (spaces : List (List ℕ)) (steps : List Step) (lines : List LineReport)
+    → IsRun (empty spaces) steps → LawsOfRuns (empty spaces) steps → IsAtRest (state_after (empty spaces) steps)
+    → (state_after (empty spaces) steps).last_session ≡ length lines
+    → AllAsk steps (state_after (empty spaces) steps) lines → AreWritten lines (said_in (empty spaces) steps)
+    → IsWhole spaces steps lines
+is_whole spaces steps lines run laws rest count asks writes = record {
+  run = run;
+  laws = laws;
+  rest = rest;
+  lines = λ i line at. is_line (i + 1) (empty spaces) steps line (asks i line at) (writes i line at);
+  all = sym count;
+}

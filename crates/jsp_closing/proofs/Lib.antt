@@ -1,0 +1,5 @@
+mod Places
+mod Rereading
+mod Left
+mod Tallies
+mod Ending

@@ -1,0 +1,105 @@
+-- What lines give is what the steps ask.
+use Rattle.std.proofs.Common.{◌≡◌, ℕ, ◌+◌, false, List, [], ◌∷◌, ◌++◌, length, eqb, refl, ap, sym, ◌∙◌, inl, inr, arith, append-nil, length-append}
+use Rattle.std.specs.Prelude.{filter, if◌then◌else◌, Option, slice_get}
+use Rattle.std.proofs.lemmas.List.{length-set}
+use Rattle.std.proofs.lemmas.List.Elements.{filter-append}
+use Rattle.std.proofs.lemmas.Bool.{eq-eqb, ne_eqb}
+use Rattle.std.proofs.lemmas.Option.{slice_get_within}
+use Rattle.jsp_wire.specs.declared.ask.Request.{Request}
+use Rattle.jsp_reply.specs.declared.refusal.Refusal.{Refusal}
+use Rattle.jsp_model.specs.declared.step.Step.{Step}
+use Rattle.jsp_model.specs.declared.step.Step.TheVariants as step
+use Rattle.jsp_model.specs.House.{step_of}
+use Rattle.jsp_drive.specs.declared.hear.LineInput.{LineInput}
+use Rattle.jsp_drive.specs.Line.{Unheard, input_of}
+use Rattle.jsp_drive.specs.Tie.{asked_in}
+use Rattle.jsp_drive.specs.Streams.{is_request_of, requests_of}
+use Rattle.jsp_drive.specs.Giving.{Gave}
+use Rattle.jsp_drive.proofs.Asking.{asked_in-append}
+use Rattle.jsp_closing.specs.declared.closed.LineReport.{LineReport}
+use Rattle.jsp_closing.specs.Asking.{HaveGiven, GivesInput, GiveStep}
+use Rattle.jsp_closing.proofs.Places.{at_set, at_push}
+
+requests_of-append : (s : ℕ) (xs ys : List Step) → requests_of s (xs ++ ys) ≡ requests_of s xs ++ requests_of s ys
+requests_of-append s xs ys = ap (filter (is_request_of s)) (asked_in-append xs ys) ∙ filter-append (is_request_of s) (asked_in xs) (asked_in ys)
+
+-- ---- one step
+
+-- by a step that is no request and no fault nobody asks
+pub asks_none : (x : Step) → ((s : ℕ) (asked : Request) (rows : List ℕ) → x ≡ step.Ask s asked rows → ⊥) → ((s : ℕ) (id : Option ℕ) (refusal : Refusal) → x ≡ step.Fault s id refusal → ⊥)
+    → (t : ℕ) → requests_of t (x ∷ []) ≡ []
+asks_none (step.Ask s asked rows) no_ask no_fault t = absurd (no_ask s asked rows refl)
+asks_none (step.Fault s id refusal) no_ask no_fault t = absurd (no_fault s id refusal refl)
+asks_none _ no_ask no_fault t = refl
+
+-- so no line gives anything
+pub give_none : (made : Step) (lines : List Unheard) → ((s : ℕ) → requests_of s (made ∷ []) ≡ []) → GiveStep made lines lines
+give_none made lines none = record {
+  count = refl;
+  each = λ i after at. record {
+    before = after;
+    was = at;
+    goes = λ stream asked gave. rw (none (i + 1)) (rw (append-nil asked) gave);
+  };
+}
+
+-- a session asks by the step what its line gave
+pub give_asked : (s : ℕ) (made : Step) (x : LineInput) (old new : List Unheard)
+    → ((t : ℕ) → requests_of t (made ∷ []) ≡ (if eqb s t then step_of (input_of s x) ∷ [] else []))
+    → GivesInput s old new x → GiveStep made old new
+give_asked s made x old new asks h = record {
+  count = ap length h.changed ∙ length-set old h.place h.after;
+  each = λ i after at. elim (at_set old h.place i h.after after (ap (λ (ls : List Unheard). slice_get ls i) (sym h.changed) ∙ at)) [
+    | inl here ↦
+        let mine : s ≡ i + 1 = omega (arith, h.session, here.0) in
+        let one : requests_of (i + 1) (made ∷ []) ≡ step_of (input_of (i + 1) x) ∷ [] =
+        asks (i + 1) ∙ rw (eq-eqb s (i + 1) mine) (ap (λ t. step_of (input_of t x) ∷ []) mine) in
+        record {
+          before = h.before;
+          was = ap (slice_get old) here.0 ∙ h.here;
+          goes = λ stream asked gave. rw (one, here.1) (h.follows (i + 1) stream asked gave);
+        }
+    | inr there ↦
+        let apart : eqb s (i + 1) ≡ false = ne_eqb s (i + 1) (λ same. there.0 (omega (arith, h.session, same))) in
+        let none : requests_of (i + 1) (made ∷ []) ≡ [] = asks (i + 1) ∙ rw apart refl in
+        record {
+          before = after;
+          was = there.1;
+          goes = λ stream asked gave. rw none (rw (append-nil asked) gave);
+        }
+  ];
+}
+
+-- ---- all steps
+
+-- the steps and one more
+pub given_more : (reports : List LineReport) (old new : List Unheard) (steps : List Step) (made : Step)
+    → HaveGiven reports old steps → GiveStep made old new → HaveGiven reports new (steps ++ made ∷ [])
+given_more reports old new steps made h one = record {
+  count = one.count ∙ h.count;
+  gave = λ i report line at there.
+      let g = one.each i line there in
+      rw (requests_of-append (i + 1) steps (made ∷ [])) (g.goes report.read.items (requests_of (i + 1) steps) (h.gave i report g.before at g.was));
+}
+
+-- ---- before the first step
+
+pub given_nothing : HaveGiven [] [] []
+given_nothing = record { count = refl; gave = λ i report line at there. absurd (cc (at)) }
+
+-- one line more is fed
+pub given_line : (reports : List LineReport) (lines : List Unheard) (report : LineReport) (line : Unheard)
+    → HaveGiven reports lines [] → ((s : ℕ) → Gave s report.read.items [] line) → HaveGiven (reports ++ report ∷ []) (lines ++ line ∷ []) []
+given_line reports lines report line h fed = record {
+  count = length-append lines (line ∷ []) ∙ ap (λ n. n + 1) h.count ∙ sym (length-append reports (report ∷ []));
+  gave = λ i r l at there. elim (at_push reports i report r at) [
+    | inl last ↦ elim (at_push lines i line l there) [
+      | inl end' ↦ rw (last.1, end'.1) (fed (i + 1))
+      | inr before ↦ absurd (omega (arith, last.0, h.count, slice_get_within lines i l before))
+    ]
+    | inr before ↦ elim (at_push lines i line l there) [
+      | inl end' ↦ absurd (omega (arith, end'.0, h.count, slice_get_within reports i r before))
+      | inr before' ↦ h.gave i r l before before'
+    ]
+  ];
+}

@@ -1,0 +1,5 @@
+use Rattle.jsp_closing.proofs.Rereading.{given_more}
+use Rattle.jsp_closing.proofs.asking.ask_again.Goals as goal
+
+pub loop-step-preserved : goal.loop-step-preserved
+loop-step-preserved c = rw c.in_ok-add_step.ensures (given_more c.args.reports.now _ _ c.loop-step.asked.items c.in_ok-again.again c.loop-step.invariant c.in_ok-again.ensures)

@@ -1,0 +1,20 @@
+use Rattle.std.proofs.Common.{◌∙◌, ℕ, List, sym, subst, inl, inr, arith}
+use Rattle.jsp_drive.specs.Streams.{requests_of}
+use Rattle.jsp_drive.specs.Giving.{Gave}
+use Rattle.jsp_closing.specs.Asking.{SaysMore}
+use Rattle.jsp_closing.proofs.leaving.check_line.Goals as goal
+
+pub returns : goal.returns
+returns c = λ steps shut gave.
+    let s = c.args.session in
+    let asked = requests_of s steps in
+    record {
+      session = omega (arith, c.if-report-session.false);
+      more = c.in_ok-more.more;
+      says = subst (λ (read : List ℕ). Gave s read asked c.args.line.now → SaysMore s read asked c.in_ok-more.more) c.as_slice.ensures.value (c.in_ok-more.ensures s asked) gave;
+      may_leave = λ sound. elim (c.may_leave.ensures c.if-not-may_leave.false sound) [
+        | inl none ↦ inl none
+        | inr itself ↦ inr (itself.0, sym shut ∙ itself.1)
+      ];
+      ended = c.may_end.ensures c.if-not-may_end.false;
+    }

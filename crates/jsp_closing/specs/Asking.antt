@@ -1,0 +1,43 @@
+-- What lines ask, read again from their bytes. The line at the place i is that of the session i + 1.
+use Rattle.std.specs.Prelude.{◌≡◌, ℕ, ◌+◌, Bool, false, List, [], ◌∷◌, ◌++◌, length, Option, Some, slice_get, slice_set}
+use Rattle.jsp_model.specs.declared.step.Step.{Step}
+use Rattle.jsp_drive.specs.declared.hear.LineInput.{LineInput}
+use Rattle.jsp_drive.specs.declared.line.Next.TheVariants as next
+use Rattle.jsp_drive.specs.Line.{Unheard}
+use Rattle.jsp_drive.specs.Streams.{requests_of}
+use Rattle.jsp_drive.specs.Giving.{Gave, GaveAll, FollowsStream}
+use Rattle.jsp_closing.specs.declared.closed.LineReport.{LineReport}
+
+-- each line was fed its bytes, and gave for them what its session asks in these steps
+pub record HaveGiven (reports : List LineReport) (lines : List Unheard) (steps : List Step) : Type 0 where
+  pub count : length lines ≡ length reports
+  pub gave : (i : ℕ) (report : LineReport) (line : Unheard) → slice_get reports i ≡ Some report → slice_get lines i ≡ Some line
+      → Gave (i + 1) report.read.items (requests_of (i + 1) steps) line
+
+-- the session's line gave this input
+pub record GivesInput (s : ℕ) (old new : List Unheard) (x : LineInput) : Type 0 where
+  pub place : ℕ
+  pub session : s ≡ place + 1
+  pub before : Unheard
+  pub after : Unheard
+  pub here : slice_get old place ≡ Some before
+  pub changed : new ≡ slice_set old place after
+  pub follows : FollowsStream before (next.Input x) after
+
+-- the session's line gave what it asks by this step, and no more
+pub record GivesStep (s : ℕ) (step : Step) (old : Option Unheard) (after : Unheard) : Type 0 where
+  pub before : Unheard
+  pub was : old ≡ Some before
+  pub goes : (stream : List ℕ) (asked : List Step) → Gave s stream asked before → Gave s stream (asked ++ requests_of s (step ∷ [])) after
+
+-- each line gave what its session asks by this step
+pub record GiveStep (step : Step) (old new : List Unheard) : Type 0 where
+  pub count : length new ≡ length old
+  pub each : (i : ℕ) (after : Unheard) → slice_get new i ≡ Some after → GivesStep (i + 1) step (slice_get old i) after
+
+-- these bytes say what was asked and then something more, or nothing
+pub record SaysMore (s : ℕ) (read : List ℕ) (asked : List Step) (more : Bool) : Type 0 where
+  pub left : List Step
+  pub too_long : Bool
+  pub says : GaveAll s read (asked ++ left) too_long
+  pub nothing : more ≡ false → left ≡ []

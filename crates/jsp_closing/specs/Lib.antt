@@ -1,0 +1,6 @@
+pub mod Bytes
+pub mod Asking
+pub mod Writing
+pub mod Lines
+pub mod Leaving
+pub mod Closing

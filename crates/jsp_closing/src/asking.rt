@@ -1,0 +1,117 @@
+//! What a history's sessions ask, read again from the bytes of their lines.
+ghost use Rattle.std.specs.Prelude.{◌≡◌, ◌++◌, ◌∷◌, ℕ, [], IfOk, OnOk};
+ghost use Rattle.jsp_drive.specs.Giving.{Gave};
+ghost use Rattle.jsp_closing.specs.Asking.{HaveGiven, GivesInput, GiveStep};
+
+use crate::closed::{Fault, LineReport};
+use jsp_drive::{Line, LineInput, Next};
+use jsp_model::Step;
+use jsp_types::{Items, NoMemory};
+use std::alloc::Global;
+
+/// The lines of these reports, each fed all its bytes.
+pub(crate) fn feed_lines(alloc: Global, reports: &[LineReport]) -> Result<Vec<Line>, NoMemory>
+    ensures { IfOk result (λ lines. HaveGiven reports.now lines.items []) }
+{
+    let mut lines = Vec::new(alloc);
+    for report in reports {
+        let line = feed_line(alloc, report.read.as_slice())?;
+        lines.push(line)?;
+    }
+    Ok(lines)
+}
+
+fn feed_line(alloc: Global, bytes: &[u8]) -> Result<Line, NoMemory>
+    ensures { IfOk result (λ line. (s : ℕ) → Gave s bytes.now [] line) }
+{
+    let mut line = Line::new(alloc);
+    line.feed(bytes)?;
+    Ok(line)
+}
+
+/// The steps, with what the lines give in the place of each request and fault.
+pub(crate) fn ask_again(
+    alloc: Global,
+    reports: &[LineReport],
+    lines: &mut Vec<Line>,
+    steps: Vec<Step>,
+) -> Result<Vec<Step>, Fault>
+    requires { HaveGiven reports.now lines.old.items [] }
+    ensures { IfOk result (λ steps. HaveGiven reports.now lines.new.items steps.items) }
+{
+    let mut asked = Vec::new(alloc);
+    for step in steps {
+        let again = step_again(lines, step)?;
+        add_step(&mut asked, again)?;
+    }
+    Ok(asked)
+}
+
+fn add_step(steps: &mut Vec<Step>, step: Step) -> Result<(), NoMemory>
+    ensures { OnOk result (steps.new.items ≡ steps.old.items ++ step ∷ []) }
+{
+    steps.push(step)?;
+    Ok(())
+}
+
+// The step, or where a session asks in it the same with what the session's line gives.
+fn step_again(lines: &mut Vec<Line>, step: Step) -> Result<Step, Fault>
+    ensures { IfOk result (λ again. GiveStep again lines.old.items lines.new.items) }
+{
+    match step {
+        Step::Ask {
+            session,
+            asked,
+            rows,
+        } => {
+            drop(asked);
+            request_again(lines, session, rows)
+        }
+        Step::Fault { session, .. } => fault_again(lines, session),
+        other => Ok(other),
+    }
+}
+
+// A request of the session, as its line gives it.
+fn request_again(lines: &mut Vec<Line>, session: u64, rows: Items<u64>) -> Result<Step, Fault>
+    ensures { IfOk result (λ again. GiveStep again lines.old.items lines.new.items) }
+{
+    match next_input(lines, session)? {
+        LineInput::Ask(asked) => Ok(Step::Ask {
+            session,
+            asked,
+            rows,
+        }),
+        LineInput::Fault(_, _) => Err(Fault::Differs),
+    }
+}
+
+// A fault of the session, as its line gives it.
+fn fault_again(lines: &mut Vec<Line>, session: u64) -> Result<Step, Fault>
+    ensures { IfOk result (λ again. GiveStep again lines.old.items lines.new.items) }
+{
+    match next_input(lines, session)? {
+        LineInput::Fault(id, refusal) => Ok(Step::Fault {
+            session,
+            id,
+            refusal,
+        }),
+        LineInput::Ask(asked) => {
+            drop(asked);
+            Err(Fault::Differs)
+        }
+    }
+}
+
+// What the session's line gives next.
+fn next_input(lines: &mut Vec<Line>, session: u64) -> Result<LineInput, Fault>
+    ensures { IfOk result (GivesInput session lines.old.items lines.new.items) }
+{
+    if session == 0 || session > lines.len() as u64 {
+        return Err(Fault::Differs);
+    }
+    match lines[session as usize - 1].next()? {
+        Next::Input(input) => Ok(input),
+        Next::More | Next::Closed => Err(Fault::Differs),
+    }
+}

@@ -1,0 +1,83 @@
+//! What a run answers.
+use jsp_audit::ReplayFault;
+use jsp_model::{Image, Step};
+use jsp_types::NoMemory;
+
+/// Why the thread that reads a line ended.
+#[derive(Clone, Copy, Debug, PartialEq, Eq)]
+pub enum Ended {
+    /// Its input ended.
+    End,
+    /// A read failed.
+    Failed,
+    /// It read as often as it may.
+    Bound,
+    /// Its own last input closed the session: a `bye`, or a frame that is too long.
+    Closing,
+    /// Its last input made no step, since the session had been closed otherwise.
+    Cut,
+    /// A call was stopped, for want of memory.
+    Stopped,
+}
+
+/// What a line read and wrote.
+#[derive(Drop)]
+pub struct LineReport {
+    pub session: u64,
+    pub ended: Ended,
+    pub read: Vec<u8>,
+    pub written: Vec<u8>,
+    pub read_failed: bool,
+    pub write_failed: bool,
+}
+
+/// What a run answers.
+#[derive(Drop)]
+pub enum Closed {
+    /// No era was sealed: the steps are the whole history, from the empty state. The lines are those
+    /// of its sessions, by their numbers.
+    Whole {
+        steps: Vec<Step>,
+        lines: Vec<LineReport>,
+    },
+    /// The last era: the state in which it began, and its steps.
+    Sealed {
+        base: Image,
+        steps: Vec<Step>,
+    },
+}
+
+/// Why a run failed.
+#[derive(Clone, Copy, Debug, PartialEq, Eq)]
+pub enum RunFault {
+    /// A growth was refused.
+    NoMemory,
+    /// A thread wasn't started, the door failed, or there were no more numbers for sessions.
+    Spawn,
+    /// What should be the same differs.
+    Audit,
+}
+
+/// Why a history isn't taken for that of its lines.
+#[derive(Clone, Copy, Debug, PartialEq, Eq)]
+pub(crate) enum Fault {
+    /// A growth was refused.
+    NoMemory,
+    /// What should be the same differs.
+    Differs,
+}
+
+impl From<NoMemory> for Fault {
+    fn from(_e: NoMemory) -> Fault {
+        Fault::NoMemory
+    }
+}
+
+impl From<ReplayFault> for Fault {
+    fn from(e: ReplayFault) -> Fault {
+        match e {
+            ReplayFault::Illegal(_) => Fault::Differs,
+            ReplayFault::NoMemory => Fault::NoMemory,
+        }
+    }
+}

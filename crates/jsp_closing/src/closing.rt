@@ -1,0 +1,80 @@
+//! The end of a history.
+ghost use Rattle.std.specs.Prelude.{IfOk, IfErr};
+ghost use Rattle.jsp_closing.specs.Closing.{Closes, IsNoSpawn, IsWhole, RestsAfter};
+
+use crate::asking::{ask_again, feed_lines};
+use crate::closed::{Closed, Fault, LineReport, RunFault};
+use crate::leaving::check_lines;
+use crate::resting::is_at_rest;
+use crate::writing::check_written;
+use jsp_audit::{Replayed, replay};
+use jsp_kept::Era;
+use jsp_model::{Config, Step};
+use std::alloc::Global;
+
+/// The history that has ended, which its lines show to be right where no era was sealed. They may
+/// come in any order.
+///
+/// The answer is `Audit` where they don't, and `NoMemory` where a growth was refused.
+pub fn close(
+    alloc: Global,
+    config: &Config,
+    era: Era,
+    lines: Vec<LineReport>,
+) -> Result<Closed, RunFault>
+    requires { RestsAfter era.base era.steps.items }
+    ensures ok { IfOk result (Closes config.now) }
+    ensures err { IfErr result IsNoSpawn }
+{
+    let Era {
+        base,
+        steps,
+        is_sealed,
+    } = era;
+    if is_sealed {
+        return Ok(Closed::Sealed { base, steps });
+    }
+    match close_whole(alloc, config, steps, lines) {
+        Ok(Whole { steps, lines }) => Ok(Closed::Whole { steps, lines }),
+        Err(Fault::NoMemory) => Err(RunFault::NoMemory),
+        Err(Fault::Differs) => Err(RunFault::Audit),
+    }
+}
+
+// A whole history, with what is asked in it as the lines say it, and these by session.
+#[derive(Drop)]
+struct Whole {
+    steps: Vec<Step>,
+    lines: Vec<LineReport>,
+}
+
+fn close_whole(
+    alloc: Global,
+    config: &Config,
+    steps: Vec<Step>,
+    reports: Vec<LineReport>,
+) -> Result<Whole, Fault>
+    ensures { IfOk result (λ whole. IsWhole config.now whole.steps.items whole.lines.items) }
+{
+    let mut reports = reports;
+    reports.sort_by_key(|report| report.session)?;
+    let mut lines = feed_lines(alloc, reports.as_slice())?;
+    let steps = ask_again(alloc, reports.as_slice(), &mut lines, steps)?;
+    let Replayed { image, said } = replay(alloc, config, steps.as_slice())?;
+    let state = image.state();
+    if !is_at_rest(state) || state.last_session != reports.len() as u64 {
+        return Err(Fault::Differs);
+    }
+    check_lines(
+        alloc,
+        state,
+        steps.as_slice(),
+        reports.as_slice(),
+        &mut lines,
+    )?;
+    check_written(alloc, reports.as_slice(), said.as_slice())?;
+    Ok(Whole {
+        steps,
+        lines: reports,
+    })
+}

@@ -1,0 +1,118 @@
+//! What the lines of a history leave unasked.
+ghost use Rattle.std.specs.Prelude.{◌≡◌, ◌⊎◌, ℕ, List, true, false, length, replicate, IfOk, OnOk};
+ghost use Rattle.jsp_model.specs.declared.step.Step.{Step};
+ghost use Rattle.jsp_model.specs.Lookup.{is_open as has_open};
+ghost use Rattle.jsp_drive.specs.Streams.{requests_of};
+ghost use Rattle.jsp_drive.specs.Giving.{Gave};
+ghost use Rattle.jsp_closing.specs.Lines.{was_shut, MayEnd};
+ghost use Rattle.jsp_closing.specs.Asking.{HaveGiven, SaysMore};
+ghost use Rattle.jsp_closing.specs.Leaving.{AllAsk, AsksIn, Marks, TellShut};
+
+use crate::closed::{Ended, Fault, LineReport};
+use jsp_audit::is_open;
+use jsp_drive::{Line, Next};
+use jsp_model::{State, Step};
+use jsp_types::NoMemory;
+use std::alloc::Global;
+
+/// Compares what is left on the lines with the state in which the steps end. They have given what is
+/// asked in the steps.
+pub(crate) fn check_lines(
+    alloc: Global,
+    state: &State,
+    steps: &[Step],
+    reports: &[LineReport],
+    lines: &mut Vec<Line>,
+) -> Result<(), Fault>
+    requires { HaveGiven reports.now lines.old.items steps.now }
+    ensures { OnOk result (AllAsk steps.now state.now reports.now) }
+{
+    let shut = shut_sessions(alloc, reports.len(), steps)?;
+    for i in 0..reports.len() {
+        check_line(state, i as u64 + 1, shut[i], &reports[i], &mut lines[i])?;
+    }
+    Ok(())
+}
+
+// One line, which has given what its session asks in the steps.
+fn check_line(
+    state: &State,
+    session: u64,
+    shut: bool,
+    report: &LineReport,
+    line: &mut Line,
+) -> Result<(), Fault>
+    ensures { OnOk result ((steps : List Step) → shut ≡ was_shut session steps
+        → Gave session report.now.read.items (requests_of session steps) line.old
+        → AsksIn session steps state.now report.now) }
+{
+    if report.session != session || !may_end(report.ended, report.write_failed) {
+        return Err(Fault::Differs);
+    }
+    let more = says_more(line, report.read.as_slice())?;
+    if !may_leave(state, session, shut, report.write_failed, more) {
+        return Err(Fault::Differs);
+    }
+    Ok(())
+}
+
+// Whether a line may say more than what was asked, or doesn't.
+fn may_leave(state: &State, session: u64, shut: bool, write_failed: bool, more: bool) -> bool
+    ensures { result ≡ true → write_failed ≡ false
+        → (more ≡ false) ⊎ ((has_open state.now session ≡ false) × (shut ≡ false)) }
+{
+    !more || write_failed || !(shut || is_open(state, session))
+}
+
+fn may_end(ended: Ended, write_failed: bool) -> bool
+    ensures { result ≡ true → MayEnd ended write_failed }
+{
+    match ended {
+        Ended::Stopped => false,
+        Ended::Cut => write_failed,
+        Ended::End | Ended::Failed | Ended::Bound | Ended::Closing => true,
+    }
+}
+
+// Whether the bytes that the line was fed say more than what it gave.
+fn says_more(line: &mut Line, read: &[u8]) -> Result<bool, NoMemory>
+    ensures { IfOk result (λ more. (s : ℕ) (asked : List Step) → Gave s read.now asked line.old
+        → SaysMore s read.now asked more) }
+{
+    match line.next()? {
+        Next::Input(input) => {
+            drop(input);
+            Ok(true)
+        }
+        Next::More => Ok(false),
+        Next::Closed => Ok(false),
+    }
+}
+
+// Of the sessions up to this number, whether somebody shut them.
+fn shut_sessions(alloc: Global, count: usize, steps: &[Step]) -> Result<Vec<bool>, NoMemory>
+    ensures count { IfOk result (λ flags. length flags.items ≡ count) }
+    ensures tell { IfOk result (λ flags. TellShut flags.items steps.now) }
+{
+    let mut flags = unset(alloc, count)?;
+    for step in steps {
+        if let Step::Shut { session } = step {
+            mark(&mut flags, *session);
+        }
+    }
+    Ok(flags)
+}
+
+fn unset(alloc: Global, count: usize) -> Result<Vec<bool>, NoMemory>
+    ensures { IfOk result (λ flags. flags.items ≡ replicate count false) }
+{
+    vec![in alloc; false; count]
+}
+
+fn mark(flags: &mut Vec<bool>, session: u64)
+    ensures { Marks session flags.old.items flags.new.items }
+{
+    if 0 < session && session <= flags.len() as u64 {
+        flags[session as usize - 1] = true;
+    }
+}

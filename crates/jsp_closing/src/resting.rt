@@ -1,0 +1,23 @@
+//! Whether a history is at rest.
+ghost use Rattle.std.specs.Prelude.{◌≡◌, true};
+ghost use Rattle.std.specs.List.{list_all};
+ghost use Rattle.jsp_model.specs.Quiet.{is_quiet as quiet};
+ghost use Rattle.jsp_model.specs.Settling.{places};
+ghost use Rattle.jsp_closing.specs.Closing.{IsAtRest};
+
+use jsp_audit::is_quiet;
+use jsp_model::State;
+
+/// Whether no transaction votes, and every space is quiet.
+pub(crate) fn is_at_rest(state: &State) -> bool
+    ensures { result ≡ true → IsAtRest state.now }
+{
+    state.commits.as_slice().is_empty() && are_all_quiet(state)
+}
+
+fn are_all_quiet(state: &State) -> bool
+    ensures { result ≡ list_all (quiet state.now) (places state.now) }
+{
+    let count = state.spaces.as_slice().len() as u64;
+    (0..count).all(|space| is_quiet(state, space))
+}

@@ -1,0 +1,93 @@
+//! What lines were written, compared with the frames of what was said to their sessions.
+ghost use Rattle.std.specs.Prelude.{◌≡◌, ◌++◌, ℕ, List, [], ◌∷◌, replicate, IfOk, OnOk};
+ghost use Rattle.jsp_reply.specs.declared.reply.Reply.{Reply};
+ghost use Rattle.jsp_model.specs.Answers.{Saying};
+ghost use Rattle.jsp_drive.specs.Heard.{framed};
+ghost use Rattle.jsp_closing.specs.Writing.{Matches, AreMatched, AreWritten};
+
+use crate::closed::{Fault, LineReport};
+use jsp_drive::encode;
+use jsp_reply::Said;
+use jsp_types::NoMemory;
+use std::alloc::Global;
+
+/// Compares the bytes written to each line with what was said to its session.
+pub(crate) fn check_written(
+    alloc: Global,
+    reports: &[LineReport],
+    said: &[(u64, Said)],
+) -> Result<(), Fault>
+    ensures { OnOk result (AreWritten reports.now said.now) }
+{
+    let matched = match_all(alloc, reports, said)?;
+    for (i, report) in reports.iter().enumerate() {
+        if matched[i] != report.written.len() {
+            return Err(Fault::Differs);
+        }
+    }
+    Ok(())
+}
+
+// How many of each line's bytes the frames match.
+fn match_all(
+    alloc: Global,
+    reports: &[LineReport],
+    said: &[(u64, Said)],
+) -> Result<Vec<usize>, Fault>
+    ensures { IfOk result (λ matched. AreMatched reports.now matched.items said.now) }
+{
+    let mut matched = none_matched(alloc, reports.len())?;
+    for (session, answer) in said {
+        let frame = encode(alloc, answer)?;
+        match_frame(reports, &mut matched, *session, frame.as_slice())?;
+    }
+    Ok(matched)
+}
+
+fn none_matched(alloc: Global, count: usize) -> Result<Vec<usize>, NoMemory>
+    ensures { IfOk result (λ matched. matched.items ≡ replicate count 0) }
+{
+    vec![in alloc; 0; count]
+}
+
+// Matches the frame of an answer to a session, behind those before it.
+fn match_frame(
+    reports: &[LineReport],
+    matched: &mut Vec<usize>,
+    session: u64,
+    frame: &[u8],
+) -> Result<(), Fault>
+    ensures { OnOk result ((said : List Saying) (answer : Reply) → frame.now ≡ framed answer
+        → AreMatched reports.now matched.old.items said
+        → AreMatched reports.now matched.new.items (said ++ (session, answer) ∷ [])) }
+{
+    let count = reports.len().min(matched.len()) as u64;
+    if session == 0 || session > count {
+        return Err(Fault::Differs);
+    }
+    let place = session as usize - 1;
+    let from = matched[place];
+    matched[place] = match_bytes(&reports[place], from, frame)?;
+    Ok(())
+}
+
+// Matches a frame with what was written from this place on, and answers the place behind it.
+fn match_bytes(report: &LineReport, from: usize, frame: &[u8]) -> Result<usize, Fault>
+    ensures { IfOk result (λ behind. (all : List ℕ)
+        → Matches report.now.write_failed report.now.written.items all from
+        → Matches report.now.write_failed report.now.written.items (all ++ frame.now) behind) }
+{
+    let written = report.written.as_slice();
+    if written.len() < from {
+        return Err(Fault::Differs);
+    }
+    let rest = &written[from..];
+    let count = rest.len().min(frame.len());
+    if rest[..count] != frame[..count] {
+        return Err(Fault::Differs);
+    }
+    if count < frame.len() && !report.write_failed {
+        return Err(Fault::Differs);
+    }
+    Ok(from + count)
+}

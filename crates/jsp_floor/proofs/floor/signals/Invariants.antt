@@ -1,5 +1,0 @@
-use Rattle.std.proofs.Common.{◌<◌, vec_len}
-use Rattle.jsp_floor.proofs.floor.signals.Given as goal
-
-abbrev pub invariant-loop : goal.invariant-loop
-invariant-loop l = 0 < vec_len l.lines

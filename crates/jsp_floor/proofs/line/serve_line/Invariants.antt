@@ -1,4 +1,0 @@
-use Rattle.jsp_floor.proofs.line.serve_line.Given as goal
-
-abbrev pub ghosts-serve_from : goal.ghosts-serve_from
-ghosts-serve_from g a = record { start = g.W.Write.contents a.writer }

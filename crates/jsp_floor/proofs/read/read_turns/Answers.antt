@@ -1,5 +1,0 @@
-use Rattle.jsp_floor.proofs.Turning.{ends_bound}
-use Rattle.jsp_floor.proofs.read.read_turns.Goals as goal
-
-pub returns-clause-reads : goal.returns-clause-reads
-returns-clause-reads g c = λ start n on. ends_bound _ start _ _ _ n _ (c.loop.invariant.2 start n on)

@@ -1,6 +1,0 @@
-pub mod Bytes
-pub mod Seats
-pub mod Halves
-pub mod Reading
-pub mod Turns
-pub mod Closing

@@ -1,0 +1,3 @@
+pub mod Granting
+pub mod Paging
+pub mod Registering

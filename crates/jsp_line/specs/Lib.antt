@@ -1,0 +1,5 @@
+pub mod Bytes
+pub mod Seats
+pub mod Halves
+pub mod Reading
+pub mod Turns

@@ -1,0 +1,63 @@
+//! What is taken is written; and the second thread of a line.
+use crate::gate::Gate;
+use crate::half::{Health, OutHalf, Sent, Start};
+use crate::shared::Shared;
+use jsp_model::{House, Why};
+use std::io::Write;
+use std::sync::ledger::Ledger;
+use std::sync::{Mutex, Wait};
+
+impl<H: House, A: Ledger, O: Ledger, G: Gate, C, T: Wait> Shared<'_, H, A, O, G, C, T> {
+    /// Tells the gate what was written, with no lock held, and shuts the session of a broken line.
+    pub(crate) fn tell(&self, session: u64, sent: Sent) {
+        if sent.health != Health::Sound {
+            self.floor.shut(self.rt, session);
+        }
+        for nth in sent.above..sent.last {
+            self.gate.written(session, nth + 1);
+        }
+    }
+
+    /// Writes what the line has taken.
+    pub(crate) fn send<W: Write, S: Start>(&self, half: &Mutex<OutHalf<O, W, S>>, session: u64) {
+        let sent = half.lock(self.rt).flush();
+        self.tell(session, sent);
+    }
+
+    // Takes what waits for the line, until nothing does, and writes it.
+    fn drain<W: Write, S: Start>(
+        &self,
+        half: &Mutex<OutHalf<O, W, S>>,
+        session: u64,
+    ) -> Result<(), Why> {
+        for _ in self.rt.forever() {
+            let taken = half.lock(self.rt).take(self.rt, self.floor);
+            self.send(half, session);
+            match taken {
+                Ok(true) => {}
+                Ok(false) => break,
+                Err(stopped) => return Err(stopped.why),
+            }
+        }
+        Ok(())
+    }
+
+    /// Writes what others' acts cause for the line, until its session is closed and nothing waits.
+    pub(crate) fn answer_all<W: Write, S: Start>(
+        &self,
+        half: &Mutex<OutHalf<O, W, S>>,
+        session: u64,
+    ) -> Option<Why> {
+        for _ in self.rt.forever() {
+            let is_open = self.floor.wait_for(self.rt, session);
+            if let Err(why) = self.drain(half, session) {
+                self.floor.shut(self.rt, session);
+                return Some(why);
+            }
+            if !is_open {
+                break;
+            }
+        }
+        None
+    }
+}

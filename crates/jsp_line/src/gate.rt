@@ -1,0 +1,16 @@
+//! What lines are given from outside: what tells the time, and what is called at each frame and answer.
+
+/// Called at each frame and answer of a line, with no lock held. A server's gate does nothing; a
+/// test's may hold a line until something else has happened.
+pub trait Gate {
+    /// Before the act of a session's nth frame, from 1.
+    fn before(&self, session: u64, nth: u64);
+
+    /// After a session's nth answer or event was written, from 1.
+    fn written(&self, session: u64, nth: u64);
+}
+
+/// What tells the time, in milliseconds.
+pub trait Clock {
+    fn now(&self) -> u64;
+}

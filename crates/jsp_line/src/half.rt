@@ -1,0 +1,361 @@
+//! The half of a line that writes, which both of its threads lock.
+ghost use Rattle.std.specs.Prelude.{◌≡◌, ◌≤◌, ◌<◌, ◌+◌, ◌++◌, ℕ, List, [], true, false, length, take, IfOk, OnOk, IsTrue};
+ghost use Rattle.std.specs.Io.KnownBytes.{Appends};
+ghost use Rattle.jsp_drive.specs.Line.{is_line_input};
+ghost use Rattle.jsp_line.specs.Bytes.{saturated};
+ghost use Rattle.jsp_line.specs.Seats.{Asks};
+ghost use Rattle.jsp_line.specs.declared.half.Health.TheVariants.{Failed};
+ghost use Rattle.jsp_line.specs.Bytes.{IsTranscript};
+ghost use Rattle.jsp_closing.specs.Bytes.{frames};
+ghost use Rattle.jsp_line.specs.Halves.{is_sound, said_in, Puts, Writes, WritesPile};
+
+use crate::counted::Counted;
+use crate::floor::{Floor, Held};
+use crate::transcript::Transcript;
+use jsp_drive::{LineInput, encode};
+use jsp_kept::{AskSeat, OutSeat};
+use jsp_model::{House, Stopped};
+use jsp_reply::Said;
+use jsp_types::NoMemory;
+use std::alloc::Global;
+use std::io::Write;
+use std::marker::{Brand, Model, PhantomData};
+use std::sync::Wait;
+use std::sync::ledger::Ledger;
+
+/// The most bytes that may wait to be written while a line goes on asking.
+const PILE: usize = 65_536;
+
+/// What a line's writer told of its bytes before the line wrote any. Each line picks it.
+pub trait Start {
+    ghost use Rattle.std.specs.Prelude.{ℕ, List, Option};
+
+    ghost start: { Option (List ℕ) };
+}
+
+impl Start for Brand {
+    ghost use Rattle.std.specs.Prelude.{None};
+
+    ghost start = { None };
+}
+
+/// Whether a line can still be written to, and why not.
+#[derive(Clone, Copy, Debug, PartialEq, Eq)]
+pub enum Health {
+    Sound,
+    /// A write failed, or took no bytes.
+    Failed,
+    /// There was no memory for an answer.
+    NoMemory,
+}
+
+impl Health {
+    fn is_sound(self) -> bool
+        ensures { result ≡ is_sound self }
+    {
+        matches!(self, Health::Sound)
+    }
+}
+
+/// What a line has taken from the house and written. The answers taken are written as frames, in
+/// order. Once a write has failed, or there was no memory for a frame, what is taken is dropped.
+#[derive(Drop)]
+pub struct OutHalf<O: Ledger, W: Write, S: Start> {
+    alloc: Global,
+    seat: OutSeat<O>,
+    writer: Counted<W>,
+    /// Frames that are still to be written.
+    pile: Vec<u8>,
+    transcript: Transcript,
+    health: Health,
+    /// How many answers were written, and how many of these the gate was told of.
+    sent: u64,
+    told: u64,
+    of: PhantomData<S>,
+}
+
+impl<O: Ledger, W: Write, S: Start> Model for OutHalf<O, W, S> {
+    ghost use Rattle.jsp_line.specs.Halves.{Half, IsHalf};
+
+    ghost Value = { Half };
+
+    ghost view = { λ h. record { seat = h.seat; health = h.health; pile = h.pile.items } };
+
+    ghost invariant = { λ h. IsHalf S.start (W.contents h.writer.inner) h.seat.count h.health h.writer.failures h.pile.items h.transcript };
+}
+
+/// How an act of a line went.
+#[derive(Drop)]
+pub(crate) struct Acted {
+    pub(crate) result: Result<(), Stopped>,
+    /// Whether the session was open after it.
+    pub(crate) is_open: bool,
+    pub(crate) is_sealed: bool,
+}
+
+/// What was written since the gate was told last.
+#[derive(Clone, Copy, Drop)]
+pub(crate) struct Sent {
+    /// The answers above this number,
+    pub(crate) above: u64,
+    /// up to this one.
+    pub(crate) last: u64,
+    pub(crate) health: Health,
+}
+
+/// What a writing half has at its line's end.
+#[derive(Drop)]
+pub struct OutDone<O: Ledger, W: Write> {
+    pub seat: OutSeat<O>,
+    pub writer: Counted<W>,
+    pub transcript: Transcript,
+    pub health: Health,
+}
+
+// Adds the frames of answers.
+fn pile_up(alloc: Global, pile: &mut Vec<u8>, said: &[Said]) -> Result<(), NoMemory>
+    ensures { OnOk result (pile.new.items ≡ pile.old.items ++ frames said.now) }
+{
+    for one in said {
+        let frame = encode(alloc, one)?;
+        pile.extend_from_slice(frame.as_slice())?;
+    }
+    Ok(())
+}
+
+// The act's result, and that of taking the answers.
+fn both(acted: Result<(), Stopped>, received: Result<bool, Stopped>) -> Result<(), Stopped> {
+    acted?;
+    received?;
+    Ok(())
+}
+
+// Puts answers on a pile, but where the half is broken.
+fn put(alloc: Global, pile: &mut Vec<u8>, health: &mut Health, said: &[Said])
+    ensures put { Puts health.old pile.old.items said.now health.new pile.new.items }
+    ensures failed { health.new ≡ Failed → health.old ≡ Failed }
+{
+    if !health.is_sound() {
+        return;
+    }
+    if pile_up(alloc, pile, said).is_err() {
+        *health = Health::NoMemory;
+    }
+}
+
+// Takes what a hold of the house's lock gave, and says whether there was anything.
+fn receive(
+    alloc: Global,
+    pile: &mut Vec<u8>,
+    health: &mut Health,
+    transcript: &mut Transcript,
+    said: Result<Vec<Said>, Stopped>,
+    is_sealed: bool,
+) -> Result<bool, Stopped>
+    ensures put { Puts health.old pile.old.items (said_in said) health.new pile.new.items }
+    ensures failed { health.new ≡ Failed → health.old ≡ Failed }
+    ensures transcript { (all : List ℕ) → IsTranscript transcript.old all → IsTranscript transcript.new all }
+    ensures same { is_sealed ≡ false → transcript.new ≡ transcript.old }
+{
+    if is_sealed {
+        transcript.forget();
+    }
+    match said {
+        Ok(said) => {
+            put(alloc, pile, health, said.as_slice());
+            Ok(!said.is_empty())
+        }
+        Err(stopped) => Err(stopped),
+    }
+}
+
+// Writes bytes until the writer takes no more, and answers how many it took.
+fn write_out<W: Write>(writer: &mut Counted<W>, bytes: &[u8]) -> usize
+    ensures bound { result ≤ length bytes.now }
+    ensures writer { Appends (W.contents writer.old.inner) (W.contents writer.new.inner) (take result bytes.now) }
+    ensures all { result ≡ length bytes.now → writer.new.failures ≡ writer.old.failures }
+    ensures part { result < length bytes.now → writer.new.failures ≡ saturated writer.old.failures }
+{
+    let mut at = 0;
+    'writes: while at < bytes.len() {
+        let taken = writer.write_once(&bytes[at..]);
+        if taken == 0 {
+            break;
+        }
+        at += taken;
+    }
+    at
+}
+
+// Writes a pile and clears it, and says how the half is after that.
+fn write_on<W: Write>(
+    writer: &mut Counted<W>,
+    pile: &mut Vec<u8>,
+    transcript: &mut Transcript,
+) -> Health
+    ensures writes { WritesPile (W.contents writer.old.inner) (W.contents writer.new.inner) transcript.old transcript.new pile.old.items result writer.new.failures }
+    ensures cleared { pile.new.items ≡ [] }
+{
+    let taken = write_out(writer, pile.as_slice());
+    let is_kept = transcript.add(&pile[..taken]).is_ok();
+    let is_whole = taken == pile.len();
+    pile.clear();
+    if !is_whole {
+        return Health::Failed;
+    }
+    if is_kept {
+        Health::Sound
+    } else {
+        Health::NoMemory
+    }
+}
+
+impl<O: Ledger, W: Write, S: Start> OutHalf<O, W, S> {
+    pub(crate) fn new(alloc: Global, seat: OutSeat<O>, writer: W) -> OutHalf<O, W, S>
+        requires count { seat.count ≡ 0 }
+        requires start { W.contents writer ≡ S.start }
+        ensures { result.seat ≡ seat }
+    {
+        OutHalf {
+            alloc,
+            seat,
+            writer: Counted::new(writer),
+            pile: Vec::new(alloc),
+            transcript: Transcript::new(alloc),
+            health: Health::Sound,
+            sent: 0,
+            told: 0,
+            of: PhantomData,
+        }
+    }
+
+    /// An act of the line, with the answers that wait after it. They are to be written before the
+    /// line reads again; where many wait to be written it is done here, without the house's lock.
+    pub(crate) fn act<H: House, A: Ledger, T: Wait>(
+        &mut self,
+        rt: &T,
+        floor: &Floor<H, A, O>,
+        asks: &mut AskSeat<A>,
+        time: u64,
+        given: LineInput,
+    ) -> Acted
+        requires { IsTrue (is_line_input given) }
+        ensures asks { Asks asks.old asks.new }
+        ensures session { self.new.seat.session ≡ self.old.seat.session }
+    {
+        let acted = self.act_and_take(rt, floor, asks, time, given);
+        if self.pile.len() > PILE {
+            self.write_pile();
+        }
+        acted
+    }
+
+    // An act of the line, with the answers that wait after it.
+    fn act_and_take<H: House, A: Ledger, T: Wait>(
+        &mut self,
+        rt: &T,
+        floor: &Floor<H, A, O>,
+        asks: &mut AskSeat<A>,
+        time: u64,
+        given: LineInput,
+    ) -> Acted
+        requires { IsTrue (is_line_input given) }
+        ensures asks { Asks asks.old asks.new }
+        ensures session { self.new.seat.session ≡ self.old.seat.session }
+    {
+        let Held {
+            acted,
+            said,
+            is_open,
+            is_sealed,
+        } = floor.act_and_take(rt, asks, time, given, &mut self.seat);
+        let received = receive(
+            self.alloc,
+            &mut self.pile,
+            &mut self.health,
+            &mut self.transcript,
+            said,
+            is_sealed,
+        );
+        Acted {
+            result: both(acted, received),
+            is_open,
+            is_sealed,
+        }
+    }
+
+    /// Takes the next answers, and says whether there were any.
+    pub(crate) fn take<H: House, A: Ledger, T: Wait>(
+        &mut self,
+        rt: &T,
+        floor: &Floor<H, A, O>,
+    ) -> Result<bool, Stopped>
+        ensures session { self.new.seat.session ≡ self.old.seat.session }
+    {
+        let (said, is_sealed) = floor.take(rt, &mut self.seat);
+        receive(
+            self.alloc,
+            &mut self.pile,
+            &mut self.health,
+            &mut self.transcript,
+            said,
+            is_sealed,
+        )
+    }
+
+    // Writes the pile.
+    fn write_pile(&mut self)
+        ensures session { self.new.seat.session ≡ self.old.seat.session }
+        ensures written { is_sound self.new.health ≡ true → self.new.pile ≡ [] }
+    {
+        if !self.health.is_sound() {
+            return;
+        }
+        self.health = write_on(&mut self.writer, &mut self.pile, &mut self.transcript);
+        self.sent = if self.health.is_sound() {
+            self.seat.count()
+        } else {
+            self.sent
+        };
+    }
+
+    /// Writes what is to be written, and says which answers were written since the last call.
+    pub(crate) fn flush(&mut self) -> Sent
+        ensures session { self.new.seat.session ≡ self.old.seat.session }
+        ensures written { is_sound self.new.health ≡ true → self.new.pile ≡ [] }
+    {
+        self.write_pile();
+        let above = self.told;
+        self.told = self.sent;
+        Sent {
+            above,
+            last: self.sent,
+            health: self.health,
+        }
+    }
+
+    /// What the half has, once no lock is left and its pile is written.
+    pub(crate) fn into_done(self) -> OutDone<O, W>
+        requires { is_sound self.health ≡ true → self.pile ≡ [] }
+        ensures session { result.seat.session ≡ self.seat.session }
+        ensures writes { Writes S.start (W.contents result.writer.inner) result.seat.count result.health result.writer.failures result.transcript }
+    {
+        let OutHalf {
+            alloc: _,
+            seat,
+            writer,
+            pile: _,
+            transcript,
+            health,
+            sent: _,
+            told: _,
+            of: _,
+        } = self;
+        OutDone {
+            seat,
+            writer,
+            transcript,
+            health,
+        }
+    }
+}
