@@ -1,5 +1,6 @@
 -- A history that its lines show to be right.
-use Rattle.std.proofs.Common.{◌≡◌, ℕ, ◌+◌, List, length, sym, inl, inr}
+use Rattle.std.proofs.Common.{◌≡◌, ℕ, ◌+◌, ◌<◌, Bool, List, length, filter, take, get_or, cond, ap, sym, ◌∙◌, inl, inr}
+use Rattle.std.proofs.lemmas.List.Filters.{length-filter_more}
 use Rattle.jsp_model.specs.declared.state.State.{State}
 use Rattle.jsp_model.specs.declared.step.Step.{Step}
 use Rattle.jsp_model.specs.Lookup.{empty}
@@ -9,7 +10,7 @@ use Rattle.jsp_closing.specs.declared.closed.LineReport.{LineReport}
 use Rattle.jsp_closing.specs.Lines.{IsLine}
 use Rattle.jsp_closing.specs.Leaving.{AsksIn, AllAsk}
 use Rattle.jsp_closing.specs.Writing.{IsWritten, AreWritten}
-use Rattle.jsp_closing.specs.Closing.{IsAtRest, IsWhole}
+use Rattle.jsp_closing.specs.Closing.{opens, IsAtRest, IsWhole}
 
 is_line : (s : ℕ) (st : State) (steps : List Step) (line : LineReport) → AsksIn s steps (state_after st steps) line → IsWritten s (said_in st steps) line → IsLine s st steps line
 is_line s st steps line asks writes = record {
@@ -28,13 +29,20 @@ is_line s st steps line asks writes = record {
 
 pub is_whole : (spaces : List (List ℕ)) (steps : List Step) (lines : List LineReport)
     → IsRun (empty spaces) steps → LawsOfRuns (empty spaces) steps → IsAtRest (state_after (empty spaces) steps)
-    → (state_after (empty spaces) steps).last_session ≡ length lines
+    → (state_after (empty spaces) steps).last_session ≡ length lines → length (filter opens steps) ≡ length lines
     → AllAsk steps (state_after (empty spaces) steps) lines → AreWritten lines (said_in (empty spaces) steps)
     → IsWhole spaces steps lines
-is_whole spaces steps lines run laws rest count asks writes = record {
+is_whole spaces steps lines run laws rest count opened asks writes = record {
   run = run;
   laws = laws;
   rest = rest;
   lines = λ i line at. is_line (i + 1) (empty spaces) steps line (asks i line at) (writes i line at);
+  opened = opened;
   all = sym count;
 }
+
+-- one step more, which opens a session or doesn't
+pub opened_more : (steps : List Step) (i : ℕ) (x : Step) (b : Bool) → i < length steps → x ≡ get_or steps i x → b ≡ opens x
+    → length (filter opens (take (i + 1) steps)) ≡ length (filter opens (take i steps)) + cond b 1 0
+opened_more steps i x b lt at is =
+    length-filter_more opens steps i x lt ∙ ap (λ c. length (filter opens (take i steps)) + cond c 1 0) (ap opens (sym at) ∙ sym is)

@@ -1,6 +1,6 @@
 //! The end of a history.
-ghost use Rattle.std.specs.Prelude.{IfOk, IfErr};
-ghost use Rattle.jsp_closing.specs.Closing.{Closes, IsNoSpawn, IsWhole, RestsAfter};
+ghost use Rattle.std.specs.Prelude.{◌≡◌, true, length, filter, IfOk, IfErr};
+ghost use Rattle.jsp_closing.specs.Closing.{Closes, IsNoSpawn, IsWhole, RestsAfter, opens};
 
 use crate::asking::{ask_again, feed_lines};
 use crate::closed::{Closed, Fault, LineReport, RunFault};
@@ -43,12 +43,12 @@ pub fn close(
 
 // A whole history, with what is asked in it as the lines say it, and these by session.
 #[derive(Drop)]
-struct Whole {
-    steps: Vec<Step>,
-    lines: Vec<LineReport>,
+pub(crate) struct Whole {
+    pub(crate) steps: Vec<Step>,
+    pub(crate) lines: Vec<LineReport>,
 }
 
-fn close_whole(
+pub(crate) fn close_whole(
     alloc: Global,
     config: &Config,
     steps: Vec<Step>,
@@ -73,8 +73,33 @@ fn close_whole(
         &mut lines,
     )?;
     check_written(alloc, reports.as_slice(), said.as_slice())?;
+    if !are_opened(steps.as_slice(), reports.len()) {
+        return Err(Fault::Differs);
+    }
     Ok(Whole {
         steps,
         lines: reports,
     })
+}
+
+// Whether so many sessions were opened.
+fn are_opened(steps: &[Step], count: usize) -> bool
+    ensures { result ≡ true → length (filter opens steps.now) ≡ count }
+{
+    let mut left = count;
+    for step in steps {
+        if is_opening(step) {
+            if left == 0 {
+                return false;
+            }
+            left -= 1;
+        }
+    }
+    left == 0
+}
+
+fn is_opening(step: &Step) -> bool
+    ensures { result ≡ opens step.now }
+{
+    matches!(step, Step::Open { .. })
 }

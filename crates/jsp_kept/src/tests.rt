@@ -1,6 +1,6 @@
-ghost use Rattle.std.specs.Prelude.{◌≡◌, ◌+◌, ◌^◌};
+ghost use Rattle.std.specs.Prelude.{◌≡◌, ◌≤◌, ◌+◌, ◌^◌};
 
-use crate::{AskSeat, Kept, LineInput, OutSeat};
+use crate::{AskSeat, Era, Kept, LineInput, OutSeat};
 use jsp_model::{Config, Stopped};
 use jsp_reply::{Refusal, text};
 use jsp_rows::RowsHouse;
@@ -21,18 +21,20 @@ fn config(rt: &HostRuntime) -> Result<Config, Fail> {
     }
 }
 
-// A history of eras of 100 steps.
+// A history of eras of so many steps.
 fn history<A: Ledger, O: Ledger>(
     rt: &HostRuntime,
+    era: u64,
     asks: Blank,
     outs: Blank,
 ) -> Result<History<A, O>, Fail>
+    requires era { (1 ≤ era) × (era ≤ 16777216) }
     requires asks { (asks.name ≡ A.name) × (asks.parts ≡ A.parts) × (A.parts ≡ 2 ^ 31 + 1) }
     requires outs { (outs.name ≡ O.name) × (outs.parts ≡ O.parts) × (O.parts ≡ 2 ^ 31 + 1) }
 {
     let config = config(rt)?;
     let house = RowsHouse::new(rt.alloc(), &config)?;
-    Ok(Kept::new(rt.alloc(), house, &config, 100, asks, outs)?)
+    Ok(Kept::new(rt.alloc(), house, &config, era, asks, outs)?)
 }
 
 fn done(act: Result<(), Stopped>) -> Result<(), Fail> {
@@ -108,7 +110,7 @@ fn serves<A: Ledger, O: Ledger>(rt: &HostRuntime, asks: Blank, outs: Blank) -> R
     requires asks { (asks.name ≡ A.name) × (asks.parts ≡ A.parts) × (A.parts ≡ 2 ^ 31 + 1) }
     requires outs { (outs.name ≡ O.name) × (outs.parts ≡ O.parts) × (O.parts ≡ 2 ^ 31 + 1) }
 {
-    let mut kept: History<A, O> = history(rt, asks, outs)?;
+    let mut kept: History<A, O> = history(rt, 100, asks, outs)?;
     session(rt, &mut kept)
 }
 
@@ -119,5 +121,64 @@ fn a_session_asks_and_takes_over_two_eras(rt: HostRuntime) -> Result<(), Fail> {
     let lines = serves::<Brand, Brand>(&rt, Blank::new(PARTS), Blank::new(PARTS))?;
     let wanted = "{\"id\":1,\"ok\":[\"a\"]}\n{\"fault\":1,\"id\":null}\n";
     assert_eq!(rt; lines.as_slice(), wanted.as_bytes());
+    Ok(())
+}
+
+// A session declares a class and writes an entry of it, takes both answers and is closed.
+fn writes<A: Ledger, O: Ledger>(
+    rt: &HostRuntime,
+    kept: &mut History<A, O>,
+) -> Result<Vec<u8>, Fail> {
+    let mut lines = Vec::new(rt.alloc());
+    match kept.begin() {
+        Err(_) => return Err(Fail::new("no session")),
+        Ok(seat) => {
+            let (mut asker, mut taker) = seat.split();
+            let declare = r#"{"id":1,"op":"declare","class":"Job","fields":{"k":"int"}}"#;
+            asks(rt, kept, &mut asker, declare)?;
+            takes(rt, kept, &mut taker, &mut lines)?;
+            let write =
+                r#"{"id":2,"op":"write","space":"a","entry":{"class":"Job","fields":{"k":1}},"lease":1000}"#;
+            asks(rt, kept, &mut asker, write)?;
+            takes(rt, kept, &mut taker, &mut lines)?;
+            kept.shut(taker.session());
+        }
+    }
+    Ok(lines)
+}
+
+// What it is answered over eras of so many steps, and the last era.
+fn ends<A: Ledger, O: Ledger>(
+    rt: &HostRuntime,
+    era: u64,
+    asks: Blank,
+    outs: Blank,
+) -> Result<(Vec<u8>, Era), Fail>
+    requires era { (1 ≤ era) × (era ≤ 16777216) }
+    requires asks { (asks.name ≡ A.name) × (asks.parts ≡ A.parts) × (A.parts ≡ 2 ^ 31 + 1) }
+    requires outs { (outs.name ≡ O.name) × (outs.parts ≡ O.parts) × (O.parts ≡ 2 ^ 31 + 1) }
+{
+    let mut kept: History<A, O> = history(rt, era, asks, outs)?;
+    let lines = writes(rt, &mut kept)?;
+    Ok((lines, kept.into_era()))
+}
+
+const WRITTEN: &str = "{\"id\":1,\"ok\":null}\n{\"id\":2,\"ok\":{\"lease\":1,\"ms\":1000}}\n";
+
+// An era of four steps is full at the second answer.
+#[test]
+fn an_era_is_sealed_in_a_call(rt: HostRuntime) -> Result<(), Fail> {
+    let (lines, era) = ends::<Brand, Brand>(&rt, 4, Blank::new(PARTS), Blank::new(PARTS))?;
+    assert_eq!(rt; lines.as_slice(), WRITTEN.as_bytes());
+    assert_eq!(rt; era.steps.len(), 2);
+    assert_eq!(rt; era.base.state().rows.as_slice().len(), 1);
+    Ok(())
+}
+
+#[test]
+fn an_era_may_have_one_step(rt: HostRuntime) -> Result<(), Fail> {
+    let (lines, era) = ends::<Brand, Brand>(&rt, 1, Blank::new(PARTS), Blank::new(PARTS))?;
+    assert_eq!(rt; lines.as_slice(), WRITTEN.as_bytes());
+    assert_eq!(rt; era.steps.len(), 2);
     Ok(())
 }

@@ -27,8 +27,9 @@ pub(crate) const MOST_LINES: u64 = 1_000_000_000;
 /// The longest era, in steps.
 pub(crate) const LONGEST_ERA: u64 = 16_777_216;
 
-/// The length of an era where it isn't told: some 50 MB of history.
-pub(crate) const USUAL_ERA: u64 = 262_144;
+/// The length of an era where it isn't told: some 40 MB of history, where requests
+/// are short.
+pub(crate) const USUAL_ERA: u64 = 131_072;
 
 /// The command's arguments, with their help.
 pub(crate) fn command<'a>(alloc: Global) -> Result<Command<'a>, AllocError> {
@@ -62,7 +63,7 @@ fn listen<'a>(alloc: Global) -> Result<Command<'a>, AllocError> {
         .long(ERA)
         .value_name("STEPS")
         .help(
-            "How many steps of its history it keeps at most, some 200 bytes each [default: 262144]",
+            "How many steps of its history it keeps at most, some 300 bytes each [default: 131072]",
         )
         .value_parser(ValueParser::unsigned(1, LONGEST_ERA));
     let address = Arg::new(alloc, ADDRESS)

@@ -41,7 +41,8 @@ impl<T: SystemClock> Clock for Uptime<'_, T> {
 
 /// Serves so many connections of the listener over the spaces of `config`, at most 256 at once, and
 /// ends when they have ended. An era of the history holds `era` steps, from 1 to 16,777,216: what the
-/// history takes of memory, a step being some 200 bytes.
+/// history takes of memory, a step being some 300 bytes where requests
+/// are short.
 pub fn serve<T: Threads + Wait + SystemClock + Sync>(
     rt: &T,
     alloc: Global,

@@ -1,4 +1,4 @@
-use Rattle.std.proofs.Common.{◌≡◌, ◌∙◌, List, length, ap, sym, subst, arith}
+use Rattle.std.proofs.Common.{◌≡◌, ◌∙◌, List, length, filter, ap, sym, subst, arith}
 use Rattle.jsp_model.specs.declared.state.State.{State}
 use Rattle.jsp_model.specs.declared.step.Step.{Step}
 use Rattle.jsp_model.specs.Answers.{Saying}
@@ -8,7 +8,7 @@ use Rattle.jsp_laws.specs.Runs.{LawsOfRuns}
 use Rattle.jsp_closing.specs.declared.closed.LineReport.{LineReport}
 use Rattle.jsp_closing.specs.Leaving.{AllAsk}
 use Rattle.jsp_closing.specs.Writing.{AreWritten}
-use Rattle.jsp_closing.specs.Closing.{IsAtRest}
+use Rattle.jsp_closing.specs.Closing.{opens, IsAtRest}
 use Rattle.jsp_closing.proofs.Ending.{is_whole}
 use Rattle.jsp_closing.proofs.closing.close_whole.Goals as goal
 
@@ -24,6 +24,8 @@ returns c =
     let said : c.as_slice-7.result.now ≡ said_in start steps = c.as_slice-7.ensures.value ∙ replayed.said ∙ ap (said_in start) same in
     let count : (state_after start steps).last_session ≡ length reports =
     ap (λ (st : State). st.last_session) (sym state) ∙ omega (arith, c.if-state-len.false, c.len.ensures, c.sort_by_key.new.self.ok.0) in
+    let opened : length (filter opens steps) ≡ length reports =
+    ap (λ (xs : List Step). length (filter opens xs)) (sym c.as_slice-8.ensures.value) ∙ omega (arith, c.are_opened.ensures c.if-not-are_opened.false, c.len-2.ensures, c.sort_by_key.new.self.ok.0) in
     let asks : AllAsk steps (state_after start steps) reports =
     subst (λ (xs : List Step). AllAsk xs (state_after start steps) reports) c.as_slice-4.ensures.value
     (subst (λ (st : State). AllAsk c.as_slice-4.result.now st reports) state
@@ -35,4 +37,4 @@ returns c =
     (subst (λ (xs : List Step). IsRun start xs) same replayed.run)
     (subst (λ (xs : List Step). LawsOfRuns start xs) same replayed.laws)
     (subst IsAtRest state (c.is_at_rest.ensures c.if-not-is_at_rest.false))
-    count asks writes
+    count opened asks writes
