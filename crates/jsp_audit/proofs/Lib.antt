@@ -1,4 +1,3 @@
-pub mod AllRows
 pub mod Chosen
 pub mod RunSoFar
 pub mod Sequences

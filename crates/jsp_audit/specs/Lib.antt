@@ -1,5 +1,5 @@
-pub mod Offering
 pub mod Changing
 pub mod Judging
 pub mod Replay
 pub mod Spaces
+pub mod Posting

@@ -10,8 +10,9 @@ ghost use Rattle.jsp_audit.specs.Judging.{refusal_in};
 
 use crate::asking::ask_of;
 use crate::telling::event_of;
+use jsp_core::Core;
 use jsp_entries::{answer_with, blocked_named};
-use jsp_model::{Item, Rank, State, Step};
+use jsp_model::{Item, Rank, Step};
 use jsp_reply::{Refusal, Reply};
 use jsp_requests::{answer, answer_commit, refuse_under, told_others};
 use jsp_state::entries_of;
@@ -22,7 +23,7 @@ use std::alloc::Global;
 /// What a step says to all sessions, in order, where its request is refused for this reason, or isn't.
 pub(crate) fn all_said(
     alloc: Global,
-    state: &State,
+    state: &Core,
     step: &Step,
     refused: Option<Refusal>,
 ) -> Result<Vec<(u64, Reply)>, NoMemory>
@@ -62,7 +63,7 @@ pub(crate) fn all_said(
 /// A request is refused, or answered if it has an answer at once, and others may be told of it.
 fn said_to_ask(
     alloc: Global,
-    state: &State,
+    state: &Core,
     session: u64,
     asked: &Asked,
     rows: &[u64],
@@ -88,7 +89,7 @@ fn said_to_ask(
 
 fn said_when_accepted(
     alloc: Global,
-    state: &State,
+    state: &Core,
     session: u64,
     id: u64,
     ask: &Ask,
@@ -135,7 +136,7 @@ pub(crate) fn only(alloc: Global, session: u64, reply: Reply) -> Result<Vec<(u64
 /// A request that waits is given the entries of these rows.
 fn grant(
     alloc: Global,
-    state: &State,
+    state: &Core,
     number: u64,
     rows: &[u64],
 ) -> Result<Vec<(u64, Reply)>, NoMemory>
@@ -146,7 +147,7 @@ fn grant(
 }
 
 /// A request that waits is answered that there is nothing.
-fn nothing(alloc: Global, state: &State, number: u64) -> Result<Vec<(u64, Reply)>, NoMemory>
+fn nothing(alloc: Global, state: &Core, number: u64) -> Result<Vec<(u64, Reply)>, NoMemory>
     ensures { IfOk result (λ v. v.items ≡ said_to_blocked (blocked_of state.now number) []) }
 {
     answer_blocked(alloc, state, number, Items::new(alloc))
@@ -154,7 +155,7 @@ fn nothing(alloc: Global, state: &State, number: u64) -> Result<Vec<(u64, Reply)
 
 fn answer_blocked(
     alloc: Global,
-    state: &State,
+    state: &Core,
     number: u64,
     entries: Items<Entry>,
 ) -> Result<Vec<(u64, Reply)>, NoMemory>
@@ -171,7 +172,7 @@ fn answer_blocked(
 
 /// When its end comes a request that waits is answered that there is nothing, and those under a
 /// transaction are refused.
-fn said_when_due(alloc: Global, state: &State, item: Item) -> Result<Vec<(u64, Reply)>, NoMemory>
+fn said_when_due(alloc: Global, state: &Core, item: Item) -> Result<Vec<(u64, Reply)>, NoMemory>
     ensures { IfOk result (λ v. v.items ≡ said_at_end state.now item.rank item.number) }
 {
     match item.rank {

@@ -7,20 +7,23 @@ ghost use Rattle.jsp_model.specs.Steps.{is_legal, next};
 ghost use Rattle.jsp_model.specs.Outboxes.{outbox_of};
 ghost use Rattle.jsp_model.specs.Limits.{IsWithinLimits};
 ghost use Rattle.jsp_audit.specs.Judging.{refusal_in as refused_in};
+ghost use Rattle.jsp_audit.specs.Posting.{with_posted, without_posted};
 ghost use Rattle.jsp_model.proofs.Outboxes.{is_hand_out};
 
 use crate::asking::keeps_its_request;
 use crate::changing::change;
 use crate::judge::refusal_in;
 use crate::saying::said_judged;
-use jsp_model::{Image, State, Step};
+use jsp_core::{Core, LiveImage};
+use jsp_model::Step;
+use jsp_outbox::Posted;
 use jsp_reply::{Refusal, Said};
-use jsp_state::{close, hand_out as hand_out_of, post_all, take_all_back};
+use jsp_state::{close, hand_out as hand_out_of};
 use jsp_types::NoMemory;
 use std::alloc::Global;
 
 /// Makes a legal step, whole or not at all where a growth is refused.
-pub fn apply(alloc: Global, image: &mut Image, step: &Step) -> Result<(), NoMemory>
+pub fn apply(alloc: Global, image: &mut LiveImage, step: &Step) -> Result<(), NoMemory>
     requires { IsTrue (is_legal image.old step.now) }
     ensures ok { OnOk result (image.new ≡ next image.old step.now) }
     ensures err { OnErr result (image.new ≡ image.old) }
@@ -34,7 +37,7 @@ pub fn apply(alloc: Global, image: &mut Image, step: &Step) -> Result<(), NoMemo
 /// already.
 pub fn apply_judged(
     alloc: Global,
-    image: &mut Image,
+    image: &mut LiveImage,
     step: &Step,
     refused: Option<Refusal>,
 ) -> Result<(), NoMemory>
@@ -57,7 +60,7 @@ pub fn apply_judged(
 /// is taken back.
 fn make(
     alloc: Global,
-    state: &mut State,
+    state: &mut Core,
     step: &Step,
     refused: Option<Refusal>,
     sayings: Vec<(u64, Said)>,
@@ -70,18 +73,40 @@ fn make(
     ensures ok { OnOk result (state.new ≡ next state.old step.now) }
     ensures err { OnErr result (state.new ≡ state.old) }
 {
-    let posts = post_all(alloc, &mut state.outboxes, sayings)?;
+    let posts = post_in(alloc, state, sayings)?;
     if let Err(e) = change(alloc, state, step, refused) {
-        take_all_back(&mut state.outboxes, posts);
+        take_back_in(state, posts);
         return Err(e);
     }
     Ok(())
 }
 
+/// Posts what is said, whole or not at all, and answers where it was posted.
+fn post_in(
+    alloc: Global,
+    state: &mut Core,
+    sayings: Vec<(u64, Said)>,
+) -> Result<Vec<Posted>, NoMemory>
+    ensures ok { OnOk result (state.new ≡ with_posted sayings.items state.old) }
+    ensures back { IfOk result (λ ps. without_posted ps.items state.new ≡ state.old) }
+    ensures err { OnErr result (state.new ≡ state.old) }
+{
+    let outboxes = &mut state.outboxes;
+    outboxes.post_all(alloc, sayings)
+}
+
+/// Takes back what was posted last.
+fn take_back_in(state: &mut Core, posts: Vec<Posted>)
+    ensures { state.new ≡ without_posted posts.items state.old }
+{
+    let outboxes = &mut state.outboxes;
+    outboxes.take_all_back(posts);
+}
+
 /// Hands out the next answers of a session, so many of those that wait for it, whole or not at all.
 pub fn hand_out(
     alloc: Global,
-    image: &mut Image,
+    image: &mut LiveImage,
     session: u64,
     count: usize,
 ) -> Result<Vec<Said>, NoMemory>
@@ -96,7 +121,7 @@ pub fn hand_out(
 }
 
 /// Closes an open session. Takes no memory.
-pub fn shut(image: &mut Image, session: u64)
+pub fn shut(image: &mut LiveImage, session: u64)
     requires { is_open image.old session ≡ true }
     ensures { image.new ≡ next image.old (step.Shut session) }
 {

@@ -8,9 +8,10 @@ ghost use Rattle.jsp_audit.specs.Changing.{has_its_choice, at_time, after_fault,
 ghost use Rattle.jsp_audit.specs.Judging.{refusal_in};
 
 use crate::asking::ask_of;
+use jsp_core::Core;
 use jsp_entries::{grant, unblock};
 use jsp_grants::tell;
-use jsp_model::{LAST_TIME, State, Step};
+use jsp_model::{LAST_TIME, Step};
 use jsp_reply::Refusal;
 use jsp_requests::accept;
 use jsp_state::{close, open};
@@ -23,7 +24,7 @@ use std::alloc::Global;
 /// isn't. What waits to be handed out stays.
 pub(crate) fn change(
     alloc: Global,
-    state: &mut State,
+    state: &mut Core,
     step: &Step,
     refused: Option<Refusal>,
 ) -> Result<(), NoMemory>
@@ -55,14 +56,14 @@ pub(crate) fn change(
         Step::Decide {
             transaction,
             commits,
-        } => return decide(state, *transaction, *commits),
+        } => return decide(alloc, state, *transaction, *commits),
         Step::HandOut { .. } => {}
     }
     Ok(())
 }
 
 /// The greatest reading of the clock so far (that it stops is this profile's own).
-fn set_clock(state: &mut State, time: u64)
+fn set_clock(state: &mut Core, time: u64)
     ensures { state.new ≡ at_time state.old time }
 {
     state.time = state.time.max(time.min(LAST_TIME));
@@ -71,7 +72,7 @@ fn set_clock(state: &mut State, time: u64)
 /// A request is accepted, or refused: then it changes nothing.
 fn ask(
     alloc: Global,
-    state: &mut State,
+    state: &mut Core,
     session: u64,
     asked: &Asked,
     rows: &[u64],
@@ -92,7 +93,7 @@ fn ask(
 }
 
 /// A frame that is too long closes its session.
-fn fault(state: &mut State, session: u64, refusal: Refusal)
+fn fault(state: &mut Core, session: u64, refusal: Refusal)
     ensures { state.new ≡ after_fault state.old session refusal }
 {
     if matches!(refusal, Refusal::TooLong) {
@@ -100,12 +101,12 @@ fn fault(state: &mut State, session: u64, refusal: Refusal)
     }
 }
 
-fn decide(state: &mut State, x: u64, commits: bool) -> Result<(), NoMemory>
+fn decide(alloc: Global, state: &mut Core, x: u64, commits: bool) -> Result<(), NoMemory>
     ensures ok { OnOk result (state.new ≡ decided state.old x commits) }
     ensures err { OnErr result (state.new ≡ state.old) }
 {
     if commits {
-        return commit(state, x);
+        return commit(alloc, state, x);
     }
     abort(state, x);
     Ok(())

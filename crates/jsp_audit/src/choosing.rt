@@ -8,8 +8,8 @@ ghost use Rattle.jsp_model.specs.declared.limits.TheConstants.{LAST_TIME};
 
 use crate::asking::ask_of;
 use crate::touching::{are_quiet, ask_touches};
+use jsp_core::Core;
 use jsp_entries::blocked_named;
-use jsp_model::State;
 use jsp_requests::{refusal, request_for_rows};
 use jsp_state::{due, has_conflict, has_none, is_choice, is_if, is_open};
 use jsp_types::NoMemory;
@@ -20,7 +20,7 @@ use std::alloc::Global;
 #[tactic(auto, unfolding(jsp_model::specs::Steps::is_legal, jsp_model::specs::Touches::touches))]
 pub(crate) fn may_ask(
     alloc: Global,
-    state: &State,
+    state: &Core,
     session: u64,
     asked: &Asked,
     rows: &[u64],
@@ -42,7 +42,7 @@ pub(crate) fn may_ask(
 /// else none.
 fn has_its_rows(
     alloc: Global,
-    state: &State,
+    state: &Core,
     session: u64,
     asked: &Asked,
     rows: &[u64],
@@ -60,7 +60,7 @@ fn has_its_rows(
 
 fn are_chosen(
     alloc: Global,
-    state: &State,
+    state: &Core,
     session: u64,
     id: u64,
     ask: &Ask,
@@ -78,7 +78,7 @@ fn are_chosen(
 
 /// A blocked request is given a choice of rows, and at least one.
 #[tactic(auto, unfolding(jsp_model::specs::Steps::is_legal))]
-pub(crate) fn may_grant(state: &State, number: u64, rows: &[u64]) -> bool
+pub(crate) fn may_grant(state: &Core, number: u64, rows: &[u64]) -> bool
     ensures { result ≡ legal state.now (step.Grant number rows.now) }
 {
     match blocked_named(state, number) {
@@ -90,7 +90,7 @@ pub(crate) fn may_grant(state: &State, number: u64, rows: &[u64]) -> bool
 /// A blocked request that waits only for a row in conflict is answered that there is nothing once
 /// there is neither a row for it nor a conflict.
 #[tactic(auto, unfolding(jsp_model::specs::Steps::is_legal))]
-pub(crate) fn may_say_nothing(state: &State, number: u64) -> bool
+pub(crate) fn may_say_nothing(state: &Core, number: u64) -> bool
     ensures { result ≡ legal state.now (step.Empty number) }
 {
     match blocked_named(state, number) {

@@ -7,15 +7,16 @@ ghost use Rattle.jsp_model.specs.Lookup.{joined_of, joined_at as joined_in};
 ghost use Rattle.jsp_model.specs.Steps.{is_legal as legal, is_vote_to_abort as says_to_abort, is_vote_to_commit as says_to_commit};
 
 use crate::touching::{are_quiet, item_touches};
+use jsp_core::Core;
 use jsp_lease::is_item;
-use jsp_model::{Item, Joined, State, Vote};
+use jsp_model::{Item, Joined, Vote};
 use jsp_state::{due, is_voting, joined_at, transaction_of};
 use jsp_types::NoMemory;
 use std::alloc::Global;
 
 /// Only the least due item ends, and only where each space that its end touches is quiet.
 #[tactic(auto, unfolding(jsp_model::specs::Steps::is_legal, jsp_model::specs::Touches::touches))]
-pub(crate) fn may_end(alloc: Global, state: &State, item: Item) -> Result<bool, NoMemory>
+pub(crate) fn may_end(alloc: Global, state: &Core, item: Item) -> Result<bool, NoMemory>
     ensures { IfOk result (λ b. b ≡ legal state.now (step.Due item)) }
 {
     let spaces = item_touches(alloc, state, item.number)?;
@@ -28,13 +29,13 @@ pub(crate) fn may_end(alloc: Global, state: &State, item: Item) -> Result<bool, 
 /// A space that joined a voting transaction votes once, while it is quiet (Jini Transactions; that it
 /// is quiet is this profile's own).
 #[tactic(auto, unfolding(jsp_model::specs::Steps::is_legal, jsp_model::specs::Touches::touches))]
-pub(crate) fn may_vote(state: &State, x: u64, space: u64) -> bool
+pub(crate) fn may_vote(state: &Core, x: u64, space: u64) -> bool
     ensures { result ≡ legal state.now (step.Vote x space) }
 {
     is_voting(state, x) && has_not_voted(state, x, space) && are_quiet(state, &[space])
 }
 
-fn has_not_voted(state: &State, x: u64, space: u64) -> bool
+fn has_not_voted(state: &Core, x: u64, space: u64) -> bool
     ensures { result ≡ option_map_or (λ j. is_none j.vote) (joined_in state.now x space) false }
 {
     match joined_at(state, x, space) {
@@ -46,7 +47,7 @@ fn has_not_voted(state: &State, x: u64, space: u64) -> bool
 /// A transaction commits where each joined space voted to, and aborts where one voted to abort (Jini
 /// Transactions).
 #[tactic(auto, unfolding(jsp_model::specs::Steps::is_legal))]
-pub(crate) fn may_decide(state: &State, x: u64, commits: bool) -> bool
+pub(crate) fn may_decide(state: &Core, x: u64, commits: bool) -> bool
     ensures { result ≡ legal state.now (step.Decide x commits) }
 {
     if commits {
@@ -56,7 +57,7 @@ pub(crate) fn may_decide(state: &State, x: u64, commits: bool) -> bool
     }
 }
 
-fn each_votes_to_commit(state: &State, x: u64) -> bool
+fn each_votes_to_commit(state: &Core, x: u64) -> bool
     ensures { result ≡ list_all says_to_commit (joined_of state.now x) }
 {
     match transaction_of(state, x) {
@@ -71,7 +72,7 @@ fn all_vote_to_commit(joined: &[Joined]) -> bool
     joined.iter().all(is_vote_to_commit)
 }
 
-fn one_votes_to_abort(state: &State, x: u64) -> bool
+fn one_votes_to_abort(state: &Core, x: u64) -> bool
     ensures { result ≡ list_any says_to_abort (joined_of state.now x) }
 {
     match transaction_of(state, x) {

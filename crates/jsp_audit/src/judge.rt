@@ -4,7 +4,8 @@ ghost use Rattle.jsp_audit.specs.Judging.{refusal_in as refused_in};
 ghost use Rattle.jsp_model.specs.declared.limits.TheConstants.{LAST_TIME};
 
 use crate::asking::ask_of;
-use jsp_model::{State, Step};
+use jsp_core::Core;
+use jsp_model::Step;
 use jsp_reply::Refusal;
 use jsp_requests::refusal;
 use jsp_types::NoMemory;
@@ -13,7 +14,7 @@ use std::alloc::Global;
 /// Why the request in the step is refused, or nothing where it isn't, or where the step has none.
 pub(crate) fn refusal_in(
     alloc: Global,
-    state: &State,
+    state: &Core,
     step: &Step,
 ) -> Result<Option<Refusal>, NoMemory>
     requires { state.now.time ≤ LAST_TIME }

@@ -6,14 +6,15 @@ ghost use Rattle.jsp_model.specs.Steps.{is_legal as legal, is_fault as is_a_faul
 use crate::choosing::{may_ask, may_grant, may_say_nothing};
 use crate::deciding::{may_decide, may_end, may_vote};
 use crate::telling::may_tell;
-use jsp_model::{Image, LAST_SESSION, State, Step};
+use jsp_core::{Core, LiveImage};
+use jsp_model::{LAST_SESSION, Step};
 use jsp_reply::Refusal;
 use jsp_state::{is_open, waiting};
 use jsp_types::NoMemory;
 use std::alloc::Global;
 
 /// Whether the step is legal in the state (which steps there are is this profile's own).
-pub fn is_legal(alloc: Global, image: &Image, step: &Step) -> Result<bool, NoMemory>
+pub fn is_legal(alloc: Global, image: &LiveImage, step: &Step) -> Result<bool, NoMemory>
     ensures { IfOk result (λ b. b ≡ legal image.now step.now) }
 {
     let state = image.state();
@@ -45,28 +46,28 @@ pub fn is_legal(alloc: Global, image: &Image, step: &Step) -> Result<bool, NoMem
 }
 
 #[tactic(auto, unfolding(jsp_model::specs::Steps::is_legal))]
-fn may_open(state: &State, session: u64) -> bool
+fn may_open(state: &Core, session: u64) -> bool
     ensures { result ≡ legal state.now (step.Open session) }
 {
     1 <= session && state.last_session < session && session <= LAST_SESSION
 }
 
 #[tactic(auto, unfolding(jsp_model::specs::Steps::is_legal))]
-fn may_shut(state: &State, session: u64) -> bool
+fn may_shut(state: &Core, session: u64) -> bool
     ensures { result ≡ legal state.now (step.Shut session) }
 {
     is_open(state, session)
 }
 
 #[tactic(auto, unfolding(jsp_model::specs::Steps::is_legal))]
-fn may_clock(state: &State, time: u64) -> bool
+fn may_clock(state: &Core, time: u64) -> bool
     ensures { result ≡ legal state.now (step.Clock time) }
 {
     true
 }
 
 #[tactic(auto, unfolding(jsp_model::specs::Steps::is_legal))]
-fn may_fault(state: &State, session: u64, id: Option<u64>, refusal: Refusal) -> bool
+fn may_fault(state: &Core, session: u64, id: Option<u64>, refusal: Refusal) -> bool
     ensures { result ≡ legal state.now (step.Fault session id refusal) }
 {
     is_open(state, session) && is_fault(refusal)
@@ -82,7 +83,7 @@ fn is_fault(refusal: Refusal) -> bool
 }
 
 #[tactic(auto, unfolding(jsp_model::specs::Steps::is_legal))]
-fn may_hand_out(state: &State, session: u64, count: u64) -> bool
+fn may_hand_out(state: &Core, session: u64, count: u64) -> bool
     ensures { result ≡ legal state.now (step.HandOut session count) }
 {
     1 <= count && count <= waiting(state, session)

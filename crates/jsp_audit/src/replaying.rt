@@ -11,6 +11,7 @@ use crate::applying::apply;
 use crate::emptiness::empty_image;
 use crate::legal::is_legal;
 use crate::saying::said;
+use jsp_core::{Keeping, LiveImage};
 use jsp_model::{Config, Image, Step};
 use jsp_reply::Said;
 use jsp_types::NoMemory;
@@ -20,7 +21,7 @@ use thiserror::Error;
 /// The state after a run, and all that its steps say, in order, each to its session.
 #[derive(Drop)]
 pub struct Replayed {
-    pub image: Image,
+    pub image: LiveImage,
     pub said: Vec<(u64, Said)>,
 }
 
@@ -70,7 +71,7 @@ pub fn replay_from(alloc: Global, base: &Image, steps: &[Step]) -> Result<Replay
     ensures said { IfOk result (λ r. r.said.items ≡ said_in base.now steps.now) }
     ensures illegal { IfErr result (λ e. FailsAt e (first_illegal base.now steps.now)) }
 {
-    let mut image = base.copy(alloc)?;
+    let mut image = LiveImage::of(alloc, base.copy(alloc)?, Keeping::Hinted { seed: 0 })?;
     let mut told = Vec::new(alloc);
     for (place, step) in steps.iter().enumerate() {
         check_step(alloc, &image, step, place)?;
@@ -80,7 +81,12 @@ pub fn replay_from(alloc: Global, base: &Image, steps: &[Step]) -> Result<Replay
 }
 
 /// Fails with the step's place where it isn't legal.
-fn check_step(alloc: Global, image: &Image, step: &Step, place: usize) -> Result<(), ReplayFault>
+fn check_step(
+    alloc: Global,
+    image: &LiveImage,
+    step: &Step,
+    place: usize,
+) -> Result<(), ReplayFault>
     ensures ok { OnOk result (legal image.now step.now ≡ true) }
     ensures err { IfErr result (λ e. StopsAt e place (legal image.now step.now)) }
 {
@@ -94,7 +100,7 @@ fn check_step(alloc: Global, image: &Image, step: &Step, place: usize) -> Result
 /// Makes a legal step, and adds what it says.
 fn make_step(
     alloc: Global,
-    image: &mut Image,
+    image: &mut LiveImage,
     told: &mut Vec<(u64, Said)>,
     step: &Step,
 ) -> Result<(), NoMemory>

@@ -10,7 +10,8 @@ ghost use Rattle.jsp_audit.specs.Judging.{refusal_in as refused_in};
 use crate::answering::all_said;
 use crate::asking::keeps_its_request;
 use crate::judge::refusal_in;
-use jsp_model::{Image, State, Step};
+use jsp_core::{Core, LiveImage};
+use jsp_model::Step;
 use jsp_reply::{Refusal, Reply, Said};
 use jsp_state::is_open;
 use jsp_types::NoMemory;
@@ -18,7 +19,7 @@ use std::alloc::Global;
 
 /// What a legal step says, in order, each answer or event to its session. Nothing is said to a closed
 /// session (this profile's own).
-pub fn said(alloc: Global, image: &Image, step: &Step) -> Result<Vec<(u64, Said)>, NoMemory>
+pub fn said(alloc: Global, image: &LiveImage, step: &Step) -> Result<Vec<(u64, Said)>, NoMemory>
     requires { IsTrue (is_legal image.now step.now) }
     ensures { IfOk result (λ v. v.items ≡ said_by image.now step.now) }
 {
@@ -29,7 +30,7 @@ pub fn said(alloc: Global, image: &Image, step: &Step) -> Result<Vec<(u64, Said)
 /// The same where its request is refused for this reason, or isn't.
 pub(crate) fn said_judged(
     alloc: Global,
-    image: &Image,
+    image: &LiveImage,
     step: &Step,
     refused: Option<Refusal>,
 ) -> Result<Vec<(u64, Said)>, NoMemory>
@@ -45,7 +46,7 @@ pub(crate) fn said_judged(
 }
 
 /// What would be said to closed sessions isn't.
-fn drop_unheard(state: &State, replies: &mut Vec<(u64, Reply)>)
+fn drop_unheard(state: &Core, replies: &mut Vec<(u64, Reply)>)
     ensures { replies.new.items ≡ filter (λ a. has_open state.now a.0) replies.old.items }
 {
     replies.retain(|a| is_open(state, a.0));

@@ -8,14 +8,15 @@ ghost use Rattle.jsp_model.specs.Steps.{is_legal as legal};
 ghost use Rattle.jsp_model.specs.Limits.{IsWithinLimits};
 
 use crate::answering::only;
-use jsp_model::{Registration, State};
+use jsp_core::Core;
+use jsp_model::Registration;
 use jsp_reply::Reply;
 use jsp_types::NoMemory;
 use std::alloc::Global;
 
 /// An event is told only where the registration is owed one.
 #[tactic(auto, unfolding(jsp_model::specs::Steps::is_legal))]
-pub(crate) fn may_tell(state: &State, number: u64) -> bool
+pub(crate) fn may_tell(state: &Core, number: u64) -> bool
     ensures { result ≡ legal state.now (step.Tell number) }
 {
     match registration_of(state, number) {
@@ -28,7 +29,7 @@ pub(crate) fn may_tell(state: &State, number: u64) -> bool
 /// last event (the numbers rise: Jini Events; by one: this profile's own).
 pub(crate) fn event_of(
     alloc: Global,
-    state: &State,
+    state: &Core,
     number: u64,
 ) -> Result<Vec<(u64, Reply)>, NoMemory>
     requires { IsWithinLimits state.now }
@@ -56,7 +57,7 @@ fn next_event(registration: &Registration) -> Result<Reply, NoMemory>
 }
 
 /// The registration of this number, if there is one.
-fn registration_of(state: &State, number: u64) -> Option<&Registration>
+fn registration_of(state: &Core, number: u64) -> Option<&Registration>
     ensures { option_copied result ≡ registration_in state.now number }
 {
     find_registration(state.registrations.as_slice(), number)

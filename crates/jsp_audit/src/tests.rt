@@ -1,10 +1,7 @@
-use crate::{
-    Replayed, available, empty_image, hand_out, is_open, replay, replay_from, shut, touches,
-    waiting,
-};
-use jsp_model::{Blocked, Config, Form, Image, Step};
+use crate::replay;
+use jsp_model::{Config, Step};
 use jsp_reply::{Said, text};
-use jsp_types::{Items, Template, Text};
+use jsp_types::{Items, Text};
 use jsp_wire::read_ask;
 use std::test::Fail;
 
@@ -56,14 +53,6 @@ fn taking(rt: &HostRuntime) -> Result<Vec<Step>, Fail> {
     Ok(steps)
 }
 
-fn written(rt: &HostRuntime) -> Result<Image, Fail> {
-    let config = config(rt)?;
-    let base = empty_image(rt.alloc(), &config)?;
-    let steps = writing(rt)?;
-    let Replayed { image, said: _ } = replay_from(rt.alloc(), &base, steps.as_slice())?;
-    Ok(image)
-}
-
 fn heard(rt: &HostRuntime, said: &[(u64, Said)]) -> Result<Vec<u8>, Fail> {
     let mut lines = Vec::new(rt.alloc());
     for (_, said) in said {
@@ -107,66 +96,5 @@ fn the_first_illegal_step_is_named(rt: HostRuntime) -> Result<(), Fail> {
     ];
     let wanted = "step 2 isn't legal".as_bytes();
     assert_eq!(rt; replays(&rt, &steps)?.as_slice(), wanted);
-    Ok(())
-}
-
-// How many answers are handed out of those that wait, and whether the session is open then, and once
-// it was shut.
-fn leaves(rt: &HostRuntime) -> Result<(u64, bool, bool), Fail> {
-    let mut image = written(rt)?;
-    if waiting(image.state(), 1) < 2 {
-        return Ok((0, false, false));
-    }
-    let answers = hand_out(rt.alloc(), &mut image, 1, 2)?;
-    let before = is_open(image.state(), 1);
-    if before {
-        shut(&mut image, 1);
-    }
-    Ok((answers.len() as u64, before, is_open(image.state(), 1)))
-}
-
-#[test]
-fn answers_are_handed_out_and_a_session_is_shut(rt: HostRuntime) -> Result<(), Fail> {
-    assert_eq!(rt; leaves(&rt)?, (2, true, false));
-    Ok(())
-}
-
-// A request for any row of the space b.
-fn for_any_row(rt: &HostRuntime) -> Result<Blocked, Fail> {
-    let mut templates = Items::new(rt.alloc());
-    templates.push(Template::Any)?;
-    Ok(Blocked {
-        number: 2,
-        session: 1,
-        id: 3,
-        space: 1,
-        templates,
-        transaction: None,
-        form: Form::Read,
-        most: 1,
-        end: 5,
-    })
-}
-
-#[test]
-fn a_row_is_available(rt: HostRuntime) -> Result<(), Fail> {
-    let image = written(&rt)?;
-    let blocked = for_any_row(&rt)?;
-    assert_eq!(rt;
-        available(rt.alloc(), &image, &blocked)?.as_slice(),
-        [1].as_slice()
-    );
-    Ok(())
-}
-
-fn touched_by_take(rt: &HostRuntime, image: &Image) -> Result<Items<u64>, Fail> {
-    let step = ask(rt, TAKE, None)?;
-    Ok(touches(rt.alloc(), image, &step)?)
-}
-
-#[test]
-fn a_take_touches_its_space(rt: HostRuntime) -> Result<(), Fail> {
-    let image = written(&rt)?;
-    assert_eq!(rt; touched_by_take(&rt, &image)?.as_slice(), [1].as_slice());
     Ok(())
 }

@@ -4,7 +4,8 @@ ghost use Rattle.jsp_model.specs.Lookup.{named as number_named, joined_spaces as
 ghost use Rattle.jsp_model.specs.Quiet.{are_quiet as all_quiet};
 ghost use Rattle.jsp_model.specs.Touches.{touches as touched, ask_touches as touched_by_ask, item_touches as touched_by_item, lease_touches as touched_by_lease, set_touches as touched_by_set, name_touches as touched_by_name};
 
-use jsp_model::{Blocked, Image, Joined, MatchSet, Registration, Row, State, Step};
+use jsp_core::{Core, LiveImage};
+use jsp_model::{Blocked, Joined, MatchSet, Registration, Step};
 use jsp_state::{is_quiet, named, space_named, transaction_of};
 use jsp_types::{Items, NoMemory};
 use jsp_wire::Ask;
@@ -13,7 +14,7 @@ use std::alloc::Global;
 /// The spaces that the step touches, by their places in the configured order; one may stand there
 /// twice. A request, an end or a vote is made only where they are quiet (this profile's own).
 #[tactic(auto, unfolding(jsp_model::specs::Touches::touches))]
-pub fn touches(alloc: Global, image: &Image, step: &Step) -> Result<Items<u64>, NoMemory>
+pub fn touches(alloc: Global, image: &LiveImage, step: &Step) -> Result<Items<u64>, NoMemory>
     ensures { IfOk result (λ v. v ≡ touched image.now step.now) }
 {
     let state = image.state();
@@ -27,14 +28,14 @@ pub fn touches(alloc: Global, image: &Image, step: &Step) -> Result<Items<u64>, 
 }
 
 /// Whether each of the spaces is quiet: it owes nothing.
-pub fn are_quiet(state: &State, spaces: &[u64]) -> bool
+pub fn are_quiet(state: &Core, spaces: &[u64]) -> bool
     ensures { result ≡ all_quiet state.now spaces.now }
 {
     spaces.iter().all(|space| is_quiet(state, *space))
 }
 
 /// The spaces that a request touches.
-pub fn ask_touches(alloc: Global, state: &State, ask: &Ask) -> Result<Vec<u64>, NoMemory>
+pub fn ask_touches(alloc: Global, state: &Core, ask: &Ask) -> Result<Vec<u64>, NoMemory>
     ensures { IfOk result (λ v. v.items ≡ touched_by_ask state.now ask.now) }
 {
     match ask {
@@ -61,7 +62,7 @@ pub fn ask_touches(alloc: Global, state: &State, ask: &Ask) -> Result<Vec<u64>, 
 }
 
 /// The spaces that the end of the item of this number touches.
-pub(crate) fn item_touches(alloc: Global, state: &State, number: u64) -> Result<Vec<u64>, NoMemory>
+pub(crate) fn item_touches(alloc: Global, state: &Core, number: u64) -> Result<Vec<u64>, NoMemory>
     ensures { IfOk result (λ v. v.items ≡ touched_by_item state.now number) }
 {
     let mut spaces = lease_touches(alloc, state, number)?;
@@ -80,7 +81,7 @@ fn only(alloc: Global, space: u64) -> Result<Vec<u64>, NoMemory>
 }
 
 /// The space of this name, if there is one.
-fn name_touches(alloc: Global, state: &State, name: &str) -> Result<Vec<u64>, NoMemory>
+fn name_touches(alloc: Global, state: &Core, name: &str) -> Result<Vec<u64>, NoMemory>
     ensures { IfOk result (λ v. v.items ≡ touched_by_name state.now name.now) }
 {
     match space_named(state, name) {
@@ -89,7 +90,7 @@ fn name_touches(alloc: Global, state: &State, name: &str) -> Result<Vec<u64>, No
     }
 }
 
-fn renewals_touch(alloc: Global, state: &State, leases: &[(i64, i64)]) -> Result<Vec<u64>, NoMemory>
+fn renewals_touch(alloc: Global, state: &Core, leases: &[(i64, i64)]) -> Result<Vec<u64>, NoMemory>
     ensures { IfOk result (λ v. v.items ≡ flat_map (λ l. touched_by_lease state.now (number_named l.0)) leases.now) }
 {
     let mut spaces = Vec::new(alloc);
@@ -100,7 +101,7 @@ fn renewals_touch(alloc: Global, state: &State, leases: &[(i64, i64)]) -> Result
     Ok(spaces)
 }
 
-fn leases_touch(alloc: Global, state: &State, leases: &[i64]) -> Result<Vec<u64>, NoMemory>
+fn leases_touch(alloc: Global, state: &Core, leases: &[i64]) -> Result<Vec<u64>, NoMemory>
     ensures { IfOk result (λ v. v.items ≡ flat_map (λ l. touched_by_lease state.now (number_named l)) leases.now) }
 {
     let mut spaces = Vec::new(alloc);
@@ -113,10 +114,10 @@ fn leases_touch(alloc: Global, state: &State, leases: &[i64]) -> Result<Vec<u64>
 
 /// The space of the row, registration or match set of this number, or the joined spaces of the
 /// transaction.
-fn lease_touches(alloc: Global, state: &State, number: u64) -> Result<Vec<u64>, NoMemory>
+fn lease_touches(alloc: Global, state: &Core, number: u64) -> Result<Vec<u64>, NoMemory>
     ensures { IfOk result (λ v. v.items ≡ touched_by_lease state.now number) }
 {
-    let mut spaces = spaces_of_rows(alloc, state.rows.as_slice(), number)?;
+    let mut spaces = state.rows.spaces_of(alloc, number)?;
     let registrations = state.registrations.as_slice();
     let hearing = spaces_of_registrations(alloc, registrations, number)?;
     spaces.extend_from_slice(hearing.as_slice())?;
@@ -125,13 +126,6 @@ fn lease_touches(alloc: Global, state: &State, number: u64) -> Result<Vec<u64>, 
     let joined = joined_spaces(alloc, state, number)?;
     spaces.extend_from_slice(joined.as_slice())?;
     Ok(spaces)
-}
-
-fn spaces_of_rows(alloc: Global, rows: &[Row], number: u64) -> Result<Vec<u64>, NoMemory>
-    ensures { IfOk result (λ v. v.items ≡ map (λ r. r.space) (filter (λ r. r.number == number) rows.now)) }
-{
-    let named = rows.iter().filter(|r| r.number == number);
-    named.map(|r| r.space).collect(alloc)
 }
 
 fn spaces_of_registrations(
@@ -153,7 +147,7 @@ fn spaces_of_blocked(alloc: Global, blocked: &[Blocked], number: u64) -> Result<
 }
 
 /// The space of the match set of this number.
-fn set_touches(alloc: Global, state: &State, number: u64) -> Result<Vec<u64>, NoMemory>
+fn set_touches(alloc: Global, state: &Core, number: u64) -> Result<Vec<u64>, NoMemory>
     ensures { IfOk result (λ v. v.items ≡ touched_by_set state.now number) }
 {
     spaces_of_sets(alloc, state.sets.as_slice(), number)
@@ -167,7 +161,7 @@ fn spaces_of_sets(alloc: Global, sets: &[MatchSet], number: u64) -> Result<Vec<u
 }
 
 /// The spaces that joined the transaction.
-fn joined_spaces(alloc: Global, state: &State, x: u64) -> Result<Vec<u64>, NoMemory>
+fn joined_spaces(alloc: Global, state: &Core, x: u64) -> Result<Vec<u64>, NoMemory>
     ensures { IfOk result (λ v. v.items ≡ joined_by state.now x) }
 {
     match transaction_of(state, x) {

@@ -10,8 +10,9 @@ ghost use Rattle.jsp_closing.specs.Leaving.{AllAsk, AsksIn, Marks, TellShut};
 
 use crate::closed::{Ended, Fault, LineReport};
 use jsp_audit::is_open;
+use jsp_core::Core;
 use jsp_drive::{Line, Next};
-use jsp_model::{State, Step};
+use jsp_model::Step;
 use jsp_types::NoMemory;
 use std::alloc::Global;
 
@@ -19,7 +20,7 @@ use std::alloc::Global;
 /// asked in the steps.
 pub(crate) fn check_lines(
     alloc: Global,
-    state: &State,
+    state: &Core,
     steps: &[Step],
     reports: &[LineReport],
     lines: &mut Vec<Line>,
@@ -36,7 +37,7 @@ pub(crate) fn check_lines(
 
 // One line, which has given what its session asks in the steps.
 fn check_line(
-    state: &State,
+    state: &Core,
     session: u64,
     shut: bool,
     report: &LineReport,
@@ -57,7 +58,7 @@ fn check_line(
 }
 
 // Whether a line may say more than what was asked, or doesn't.
-fn may_leave(state: &State, session: u64, shut: bool, write_failed: bool, more: bool) -> bool
+fn may_leave(state: &Core, session: u64, shut: bool, write_failed: bool, more: bool) -> bool
     ensures { result ≡ true → write_failed ≡ false
         → (more ≡ false) ⊎ ((has_open state.now session ≡ false) × (shut ≡ false)) }
 {

@@ -6,16 +6,16 @@ ghost use Rattle.jsp_model.specs.Settling.{places};
 ghost use Rattle.jsp_closing.specs.Closing.{IsAtRest};
 
 use jsp_audit::is_quiet;
-use jsp_model::State;
+use jsp_core::Core;
 
 /// Whether no transaction votes, and every space is quiet.
-pub(crate) fn is_at_rest(state: &State) -> bool
+pub(crate) fn is_at_rest(state: &Core) -> bool
     ensures { result ≡ true → IsAtRest state.now }
 {
     state.commits.as_slice().is_empty() && are_all_quiet(state)
 }
 
-fn are_all_quiet(state: &State) -> bool
+fn are_all_quiet(state: &Core) -> bool
     ensures { result ≡ list_all (quiet state.now) (places state.now) }
 {
     let count = state.spaces.as_slice().len() as u64;

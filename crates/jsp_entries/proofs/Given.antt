@@ -8,7 +8,8 @@ use Rattle.jsp_model.specs.declared.state.Row.{Row}
 use Rattle.jsp_model.specs.declared.state.Form.{Form}
 use Rattle.jsp_model.specs.Lookup.{contains, update}
 use Rattle.jsp_model.specs.Sight.{is_take}
-use Rattle.jsp_entries.specs.Giving.{given_to, taken, removed, read, read_row, with_reader}
+use Rattle.jsp_sight.specs.Rows.{with_reader}
+use Rattle.jsp_entries.specs.Giving.{given_to, taken, removed, read, read_row}
 
 flat_filter : {X : Type 0} (test : X → Bool) (xs : List X) → filter (λ x. not (test x)) xs ≡ flat_map (λ x. cond (test x) [] (x ∷ [])) xs
 flat_filter test [] = refl

@@ -1,5 +1,5 @@
 -- A write, once its rows are made and its space has joined.
-use Rattle.std.proofs.Common.{◌≡◌, ℕ, ◌+◌, ◌-◌, ◌≤◌, ◌==◌, Bool, true, false, not, nat_lt, List, Option, length, filter, refl, ap, sym, ◌∙◌, arith, le-ltb}
+use Rattle.std.proofs.Common.{◌≡◌, ℕ, ◌+◌, ◌-◌, ◌≤◌, ◌==◌, false, not, nat_lt, List, Option, length, refl, ap, sym, ◌∙◌, arith, le-ltb}
 use Rattle.std.proofs.lemmas.List.Filters.{length-filter_both}
 use Rattle.jsp_model.specs.declared.state.State.{State}
 use Rattle.jsp_model.specs.declared.state.Row.{Row}
@@ -26,7 +26,6 @@ written st w caller space rows joined new by at made is so =
 few_in : (st : State) (p : ℕ) → rows_in st p ≤ length st.rows
 few_in st p = omega (arith, length-filter_both (λ (r : Row). r.space == p) (λ r. not (r.space == p)) (λ r. refl) st.rows)
 
--- where the rows of all spaces leave room, those of one do
-pub room_left : (st : State) (p most n : ℕ) → n ≤ most → length st.rows ≤ most - n → nat_lt most (rows_in st p + n) ≡ false
-room_left st p most n fits room =
-    le-ltb most (rows_in st p + n) (omega (arith, few_in st p, fits, room))
+-- where its rows are few enough, a space has room
+pub room_left : (st : State) (p most n : ℕ) → n ≤ most → rows_in st p ≤ most - n → nat_lt most (rows_in st p + n) ≡ false
+room_left st p most n fits room = le-ltb most (rows_in st p + n) (omega (arith, fits, room))

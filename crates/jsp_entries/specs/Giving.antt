@@ -1,20 +1,15 @@
 -- Rows that are given to a request.
-use Rattle.std.specs.Prelude.{ℕ, not, if◌then◌else◌, List, [], ◌∷◌, ◌++◌, map, filter, flat_map, Option, Some}
+use Rattle.std.specs.Prelude.{ℕ, not, if◌then◌else◌, List, [], ◌∷◌, map, filter, flat_map, Option}
 use Rattle.jsp_model.specs.declared.state.State.{State}
 use Rattle.jsp_model.specs.declared.state.Row.{Row}
 use Rattle.jsp_model.specs.declared.state.Form.{Form}
 use Rattle.jsp_model.specs.Lookup.{contains}
+use Rattle.jsp_sight.specs.Rows.{with_reader, taken_row}
 use Rattle.jsp_model.specs.Sight.{is_take}
 use Rattle.jsp_model.specs.Changes.{read_by, taken_by}
 
-abbrev pub with_reader : ℕ → Row → Row
-with_reader x row = record row { readers = if contains row.readers x then row.readers else row.readers ++ x ∷ [] }
-
 abbrev pub read_row : ℕ → List ℕ → Row → Row
 read_row x ns row = if contains ns row.number then with_reader x row else row
-
-abbrev pub taken_row : ℕ → List ℕ → Row → Row
-taken_row x ns row = if contains ns row.number then record row { taker = Some x } else row
 
 -- the rows of these numbers are read or taken under the transaction, or they go
 abbrev pub read : ℕ → List ℕ → State → State

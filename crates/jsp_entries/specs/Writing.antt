@@ -8,7 +8,6 @@ use Rattle.jsp_model.specs.declared.state.Row.{Row}
 use Rattle.jsp_model.specs.Requests.{WriteRequest, place_of}
 use Rattle.jsp_model.specs.Refusals.{Tests, rows_in, is_used_up}
 use Rattle.jsp_model.specs.Changes.{new_row}
-use Rattle.jsp_transactions.specs.declared.owing.News.TheVariants.{Written}
 use Rattle.jsp_transactions.specs.Owing.{owed}
 use Rattle.jsp_model.specs.declared.limits.TheConstants.{MOST_ROWS}
 
@@ -28,6 +27,6 @@ abbrev pub with_new_rows : State → Option ℕ → List Row → State
 with_new_rows st caller rows =
     record st {
       rows = st.rows ++ rows;
-      registrations = map (owed st.classes (Written caller) rows) st.registrations;
+      registrations = map (owed st.classes caller rows) st.registrations;
       next_number = st.next_number + length rows;
     }

@@ -16,7 +16,8 @@ ghost use Rattle.jsp_model.specs.declared.limits.TheConstants.{LAST_NUMBER, LAST
 use crate::blocking::{RowsAsked, as_blocked};
 use crate::search::{accept_search, answer_search, refuse_search};
 use crate::write::{WriteAsked, accept_write, answer_write_all, refuse_write};
-use jsp_model::{Blocked, Form, State};
+use jsp_core::Core;
+use jsp_model::{Blocked, Form};
 use jsp_reply::{Refusal, Reply};
 use jsp_types::{Items, NoMemory};
 use jsp_wire::{Search, TakeMany, Write, WriteAll};
@@ -78,7 +79,7 @@ fn all_entries(write: &WriteAll) -> WriteAsked<'_>
 /// Why a request for one row is refused, or nothing where it isn't.
 pub fn refuse_one(
     alloc: Global,
-    state: &State,
+    state: &Core,
     session: u64,
     id: u64,
     form: Form,
@@ -93,7 +94,7 @@ pub fn refuse_one(
 /// Why a request for several rows is refused, or nothing where it isn't.
 pub fn refuse_many(
     alloc: Global,
-    state: &State,
+    state: &Core,
     session: u64,
     id: u64,
     search: &TakeMany,
@@ -107,7 +108,7 @@ pub fn refuse_many(
 /// A request for one row is given it, or waits; whole or not at all.
 pub fn accept_one(
     alloc: Global,
-    state: &mut State,
+    state: &mut Core,
     session: u64,
     id: u64,
     rows: &[u64],
@@ -130,7 +131,7 @@ pub fn accept_one(
 /// A request for several rows is given them, or waits; whole or not at all.
 pub fn accept_many(
     alloc: Global,
-    state: &mut State,
+    state: &mut Core,
     session: u64,
     id: u64,
     rows: &[u64],
@@ -152,7 +153,7 @@ pub fn accept_many(
 /// What a request for one row is answered at once: nothing where it waits.
 pub fn answer_one(
     alloc: Global,
-    state: &State,
+    state: &Core,
     session: u64,
     id: u64,
     rows: &[u64],
@@ -170,7 +171,7 @@ pub fn answer_one(
 /// What a request for several rows is answered at once: nothing where it waits.
 pub fn answer_many(
     alloc: Global,
-    state: &State,
+    state: &Core,
     session: u64,
     id: u64,
     rows: &[u64],
@@ -187,7 +188,7 @@ pub fn answer_many(
 /// The request for one row as it would wait.
 pub fn waiting_one(
     alloc: Global,
-    state: &State,
+    state: &Core,
     session: u64,
     id: u64,
     form: Form,
@@ -205,7 +206,7 @@ pub fn waiting_one(
 /// The request for several rows as it would wait.
 pub fn waiting_many(
     alloc: Global,
-    state: &State,
+    state: &Core,
     session: u64,
     id: u64,
     search: &TakeMany,
@@ -220,14 +221,14 @@ pub fn waiting_many(
 }
 
 /// Why a write of one entry is refused, or nothing where it isn't.
-pub fn refuse_entry(state: &State, write: &Write) -> Option<Refusal>
+pub fn refuse_entry(state: &Core, write: &Write) -> Option<Refusal>
     ensures { result ≡ first_that (write_tests state.now (entry_written write.now)) }
 {
     refuse_write(state, &one_entry(write))
 }
 
 /// Why a write of several entries is refused, or nothing where it isn't.
-pub fn refuse_entries(state: &State, write: &WriteAll) -> Option<Refusal>
+pub fn refuse_entries(state: &Core, write: &WriteAll) -> Option<Refusal>
     requires { length write.now.entries ≤ 64 }
     ensures { result ≡ first_that (write_tests state.now (entries_written write.now)) }
 {
@@ -235,7 +236,7 @@ pub fn refuse_entries(state: &State, write: &WriteAll) -> Option<Refusal>
 }
 
 /// Writes one entry, whole or not at all (JavaSpaces write).
-pub fn accept_entry(alloc: Global, state: &mut State, write: &Write) -> Result<(), NoMemory>
+pub fn accept_entry(alloc: Global, state: &mut Core, write: &Write) -> Result<(), NoMemory>
     requires time { state.old.time ≤ LAST_TIME }
     requires numbers { state.old.next_number ≤ LAST_NUMBER + 1 }
     requires transactions { IsTrue (are_rising 0 state.old.next_number (map (λ t. t.number) state.old.transactions)) }
@@ -248,7 +249,7 @@ pub fn accept_entry(alloc: Global, state: &mut State, write: &Write) -> Result<(
 }
 
 /// Writes several entries, all or none (this profile's own).
-pub fn accept_entries(alloc: Global, state: &mut State, write: &WriteAll) -> Result<(), NoMemory>
+pub fn accept_entries(alloc: Global, state: &mut Core, write: &WriteAll) -> Result<(), NoMemory>
     requires time { state.old.time ≤ LAST_TIME }
     requires numbers { state.old.next_number ≤ LAST_NUMBER + 1 }
     requires transactions { IsTrue (are_rising 0 state.old.next_number (map (λ t. t.number) state.old.transactions)) }
@@ -264,7 +265,7 @@ pub fn accept_entries(alloc: Global, state: &mut State, write: &WriteAll) -> Res
 /// What a write of several entries is answered: their leases, and the time granted in milliseconds.
 pub fn answer_entries(
     alloc: Global,
-    state: &State,
+    state: &Core,
     id: u64,
     write: &WriteAll,
 ) -> Result<Option<Reply>, NoMemory>

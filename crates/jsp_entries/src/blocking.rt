@@ -7,7 +7,8 @@ ghost use Rattle.jsp_state.specs.Fitting.{AllFit};
 ghost use Rattle.jsp_entries.specs.Asking.{rows_of, end_asked};
 ghost use Rattle.jsp_model.specs.declared.limits.TheConstants.{LAST_TIME};
 
-use jsp_model::{Blocked, Form, NEVER, State};
+use jsp_core::Core;
+use jsp_model::{Blocked, Form, NEVER};
 use jsp_state::{caller_of, named, place_of, templates_of};
 use jsp_types::{NoMemory, Raw};
 use std::alloc::Global;
@@ -27,7 +28,7 @@ pub struct RowsAsked<'a> {
 /// The request as it waits, under the next number.
 pub fn as_blocked(
     alloc: Global,
-    state: &State,
+    state: &Core,
     session: u64,
     id: u64,
     asked: &RowsAsked,
@@ -50,7 +51,7 @@ pub fn as_blocked(
     })
 }
 
-fn end_of(state: &State, asked: &RowsAsked) -> u64
+fn end_of(state: &Core, asked: &RowsAsked) -> u64
     requires { state.now.time ≤ LAST_TIME }
     ensures { result ≡ end_asked state.now (rows_of asked.now) }
 {
@@ -58,7 +59,7 @@ fn end_of(state: &State, asked: &RowsAsked) -> u64
 }
 
 /// The request of this number that waits, if there is one.
-pub fn blocked_named(state: &State, number: u64) -> Option<&Blocked>
+pub fn blocked_named(state: &Core, number: u64) -> Option<&Blocked>
     ensures { option_copied result ≡ blocked_of state.now number }
 {
     find_blocked(state.blocked.as_slice(), number)
@@ -71,7 +72,7 @@ fn find_blocked(blocked: &[Blocked], number: u64) -> Option<&Blocked>
 }
 
 /// The request of this number waits no longer.
-pub fn unblock(state: &mut State, number: u64)
+pub fn unblock(state: &mut Core, number: u64)
     ensures { state.new ≡ unblocked state.old number }
 {
     let blocked = &mut state.blocked;

@@ -7,7 +7,7 @@ ghost use Rattle.jsp_model.specs.Requests.{class_asked as class_of, kinded as fi
 ghost use Rattle.jsp_model.specs.Refusals.{declare_tests};
 ghost use Rattle.jsp_entries.specs.Declaring.{refusal_of, after_declare};
 
-use jsp_model::State;
+use jsp_core::Core;
 use jsp_reply::Refusal;
 use jsp_types::{Class, ClassFault, Items, Kind, NoMemory, Text};
 use jsp_wire::Declare;
@@ -16,7 +16,7 @@ use std::alloc::Global;
 /// Why the declaration is refused, or nothing where it isn't (this profile's own).
 pub fn refuse_declare(
     alloc: Global,
-    state: &State,
+    state: &Core,
     declare: &Declare,
 ) -> Result<Option<Refusal>, NoMemory>
     ensures { IfOk result (λ r. r ≡ first_that (declare_tests state.now declare.now)) }
@@ -32,7 +32,7 @@ pub fn refuse_declare(
 }
 
 /// Adds the class, unless it is declared alike already; whole or not at all.
-pub fn accept_declare(alloc: Global, state: &mut State, declare: &Declare) -> Result<(), NoMemory>
+pub fn accept_declare(alloc: Global, state: &mut Core, declare: &Declare) -> Result<(), NoMemory>
     requires { first_that (declare_tests state.old declare.now) ≡ None }
     ensures ok { OnOk result (state.new ≡ after_declare state.old declare.now) }
     ensures err { OnErr result (state.new ≡ state.old) }

@@ -11,8 +11,6 @@ mod blocking;
 mod declare;
 mod giving;
 mod search;
-#[cfg(test)]
-mod tests;
 mod write;
 
 pub use asking::{

@@ -18,7 +18,8 @@ ghost use Rattle.jsp_model.specs.declared.limits.TheConstants.{LAST_TIME};
 
 use crate::blocking::{RowsAsked, as_blocked, blocked_named, unblock};
 use crate::giving::give;
-use jsp_model::{Blocked, Form, State};
+use jsp_core::Core;
+use jsp_model::{Blocked, Form};
 use jsp_reply::{Refusal, Reply};
 use jsp_state::{
     entries_of, is_used_up, must_wait, named, space_refusal, templates_refusal, waits_for_many,
@@ -30,7 +31,7 @@ use std::alloc::Global;
 /// Why a request for rows is refused, or nothing where it isn't (the order is this profile's own).
 pub fn refuse_search(
     alloc: Global,
-    state: &State,
+    state: &Core,
     session: u64,
     id: u64,
     asked: &RowsAsked,
@@ -50,7 +51,7 @@ pub fn refuse_search(
 /// Why a request for rows that could be answered can't wait.
 fn refuse_to_wait(
     alloc: Global,
-    state: &State,
+    state: &Core,
     session: u64,
     id: u64,
     asked: &RowsAsked,
@@ -83,7 +84,7 @@ fn is_negative(asked: &RowsAsked) -> bool
 /// Whether the request would wait.
 pub(crate) fn would_block(
     alloc: Global,
-    state: &State,
+    state: &Core,
     session: u64,
     id: u64,
     asked: &RowsAsked,
@@ -103,7 +104,7 @@ pub(crate) fn would_block(
 /// transaction.
 pub fn accept_search(
     alloc: Global,
-    state: &mut State,
+    state: &mut Core,
     session: u64,
     id: u64,
     rows: &[u64],
@@ -131,7 +132,7 @@ pub fn accept_search(
 }
 
 fn block_or_give(
-    state: &mut State,
+    state: &mut Core,
     blocked: Blocked,
     rows: &[u64],
     waits: bool,
@@ -152,7 +153,7 @@ fn block_or_give(
 }
 
 /// Gives a request that waits its rows, whole or not at all.
-pub fn grant(state: &mut State, number: u64, rows: &[u64]) -> Result<(), NoMemory>
+pub fn grant(state: &mut Core, number: u64, rows: &[u64]) -> Result<(), NoMemory>
     requires rows { IsTrue (are_rising 0 state.old.next_number (map (λ r. r.number) state.old.rows)) }
     requires one { (b : Waiting) → blocked_of state.old number ≡ Some b → takes b.form ≡ false → length rows.now ≤ 1 }
     ensures ok { OnOk result (state.new ≡ after_grant state.old number rows.now (blocked_of state.old number)) }
@@ -169,7 +170,7 @@ pub fn grant(state: &mut State, number: u64, rows: &[u64]) -> Result<(), NoMemor
 }
 
 /// The form and the caller of the request of this number that waits.
-fn request_named(state: &State, number: u64) -> Option<(Form, Option<u64>)>
+fn request_named(state: &Core, number: u64) -> Option<(Form, Option<u64>)>
     ensures { result ≡ option_map form_and_caller (blocked_of state.now number) }
 {
     match blocked_named(state, number) {
@@ -182,7 +183,7 @@ fn request_named(state: &State, number: u64) -> Option<(Form, Option<u64>)>
 /// are none, or nothing where it waits.
 pub fn answer_search(
     alloc: Global,
-    state: &State,
+    state: &Core,
     session: u64,
     id: u64,
     rows: &[u64],

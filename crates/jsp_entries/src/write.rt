@@ -16,13 +16,15 @@ ghost use Rattle.jsp_entries.specs.Asking.{write_of};
 ghost use Rattle.jsp_entries.specs.Writing.{granting_tests, row_numbered, with_new_rows};
 ghost use Rattle.jsp_model.specs.declared.limits.TheConstants.{LAST_NUMBER, LAST_TIME, MOST_ROWS};
 
+use jsp_core::Core;
 use jsp_lease::{granted, ms_of};
-use jsp_model::{MOST_ROWS, Registration, Row, State};
+use jsp_model::{MOST_ROWS, Registration, Row};
 use jsp_reply::{Refusal, Reply};
 use jsp_state::{
     caller_of, entries_refusal, entry_of, is_used_up, place_of, rows_in, space_refusal,
 };
-use jsp_transactions::{News, forgive_all, join, leave, owe_all};
+use jsp_store::Rows;
+use jsp_transactions::{forgive_all, join, leave, owe_all};
 use jsp_types::{Classes, Items, NoMemory, Raw};
 use std::alloc::Global;
 
@@ -37,7 +39,7 @@ pub struct WriteAsked<'a> {
 }
 
 /// Why a write is refused, or nothing where it isn't (the order is this profile's own).
-pub fn refuse_write(state: &State, asked: &WriteAsked) -> Option<Refusal>
+pub fn refuse_write(state: &Core, asked: &WriteAsked) -> Option<Refusal>
     requires { length asked.now.entries.now ≤ 64 }
     ensures { result ≡ first_that (write_tests state.now (write_of asked.now)) }
 {
@@ -51,7 +53,7 @@ pub fn refuse_write(state: &State, asked: &WriteAsked) -> Option<Refusal>
 }
 
 /// Why a write whose entries could be stored isn't granted.
-fn refuse_to_grant(state: &State, asked: &WriteAsked) -> Option<Refusal>
+fn refuse_to_grant(state: &Core, asked: &WriteAsked) -> Option<Refusal>
     requires { length asked.now.entries.now ≤ 64 }
     ensures { result ≡ first_that (granting_tests state.now (write_of asked.now)) }
 {
@@ -74,14 +76,14 @@ fn has_bad_lease(asked: &WriteAsked) -> bool
     granted(asked.lease).is_none()
 }
 
-/// Whether the space has no room for so many rows more. Its own rows are counted only where those of
-/// all spaces together would be too many.
-fn is_full(state: &State, space: u64, count: usize) -> bool
+/// Whether the space has no room for so many rows more. They are counted only where they may be too
+/// many.
+fn is_full(state: &Core, space: u64, count: usize) -> bool
     requires { count ≤ 64 }
     ensures { result ≡ nat_lt MOST_ROWS (count_in state.now space + count) }
 {
     let room = MOST_ROWS - count;
-    if state.rows.as_slice().len() <= room {
+    if state.rows.at_most_in(space) <= room {
         return false;
     }
     room < rows_in(state, space)
@@ -89,7 +91,7 @@ fn is_full(state: &State, space: u64, count: usize) -> bool
 
 /// Writes the entries, all or none: each is a row of its own, also an equal one (JavaSpaces). The
 /// space joins the writer's transaction, and registrations are owed the rows.
-pub fn accept_write(alloc: Global, state: &mut State, asked: &WriteAsked) -> Result<(), NoMemory>
+pub fn accept_write(alloc: Global, state: &mut Core, asked: &WriteAsked) -> Result<(), NoMemory>
     requires time { state.old.time ≤ LAST_TIME }
     requires numbers { state.old.next_number ≤ LAST_NUMBER + 1 }
     requires transactions { IsTrue (are_rising 0 state.old.next_number (map (λ t. t.number) state.old.transactions)) }
@@ -113,7 +115,7 @@ pub fn accept_write(alloc: Global, state: &mut State, asked: &WriteAsked) -> Res
 /// The rows that a write adds, with the numbers that come next.
 fn new_rows(
     alloc: Global,
-    state: &State,
+    state: &Core,
     asked: &WriteAsked,
     caller: Option<u64>,
 ) -> Result<Vec<Row>, NoMemory>
@@ -135,7 +137,7 @@ fn new_rows(
 /// The row of an entry, with this number.
 fn new_row(
     alloc: Global,
-    state: &State,
+    state: &Core,
     asked: &WriteAsked,
     caller: Option<u64>,
     number: u64,
@@ -159,7 +161,7 @@ fn new_row(
 }
 
 /// Stores the rows, whole or not at all: registrations are owed them, and their numbers are drawn.
-fn add_rows(state: &mut State, rows: Vec<Row>, caller: Option<u64>) -> Result<(), NoMemory>
+fn add_rows(state: &mut Core, rows: Vec<Row>, caller: Option<u64>) -> Result<(), NoMemory>
     requires { state.old.next_number + length rows.items < 2 ^ 64 }
     ensures ok { OnOk result (state.new ≡ with_new_rows state.old caller rows.items) }
     ensures err { OnErr result (state.new ≡ state.old) }
@@ -167,13 +169,12 @@ fn add_rows(state: &mut State, rows: Vec<Row>, caller: Option<u64>) -> Result<()
     let count = rows.len() as u64;
     let stored = &mut state.rows;
     let registrations = &mut state.registrations;
-    let news = News::Written { caller };
     store(
         &state.classes,
-        &mut stored.items,
+        stored,
         &mut registrations.items,
         rows,
-        news,
+        caller,
     )?;
     state.next_number += count;
     Ok(())
@@ -181,28 +182,28 @@ fn add_rows(state: &mut State, rows: Vec<Row>, caller: Option<u64>) -> Result<()
 
 fn store(
     classes: &Classes,
-    stored: &mut Vec<Row>,
+    stored: &mut Rows,
     registrations: &mut [Registration],
     mut rows: Vec<Row>,
-    news: News,
+    caller: Option<u64>,
 ) -> Result<(), NoMemory>
-    ensures rows { OnOk result (stored.new.items ≡ stored.old.items ++ rows.items) }
-    ensures owed { OnOk result (registrations.new ≡ map (owed classes.now news rows.items) registrations.old) }
-    ensures rows_stay { OnErr result (stored.new.items ≡ stored.old.items) }
+    ensures rows { OnOk result (stored.new ≡ stored.old ++ rows.items) }
+    ensures owed { OnOk result (registrations.new ≡ map (owed classes.now caller rows.items) registrations.old) }
+    ensures rows_stay { OnErr result (stored.new ≡ stored.old) }
     ensures owed_stay { OnErr result (registrations.new ≡ registrations.old) }
 {
-    owe_all(classes, registrations, rows.as_slice(), news)?;
+    owe_all(classes, registrations, rows.as_slice(), caller)?;
     match stored.append(&mut rows) {
         Ok(()) => Ok(()),
         Err(e) => {
-            forgive_all(classes, registrations, rows.as_slice(), news);
+            forgive_all(classes, registrations, rows.as_slice(), caller);
             Err(e)
         }
     }
 }
 
 /// What a request is answered that draws one number: the lease of that number, and its time.
-pub fn answer_leased(state: &State, id: u64, lease: &i64) -> Reply
+pub fn answer_leased(state: &Core, id: u64, lease: &i64) -> Reply
     ensures { result ≡ says.Leased id state.now.next_number (granted_ms lease.now) }
 {
     Reply::Leased {
@@ -216,7 +217,7 @@ pub fn answer_leased(state: &State, id: u64, lease: &i64) -> Reply
 /// profile's own).
 pub fn answer_write_all(
     alloc: Global,
-    state: &State,
+    state: &Core,
     id: u64,
     count: usize,
     lease: i64,

@@ -1,15 +1,11 @@
 -- Match sets that are opened, and the pages that they show.
-use Rattle.std.specs.Prelude.{ℕ, ◌+◌, Bool, ◌&&◌, ◌==◌, nat_lt, List, [], ◌∷◌, ◌++◌, map, filter, Option, unwrap_or}
-use Rattle.jsp_types.specs.declared.class.Class.{Class}
-use Rattle.jsp_types.specs.declared.entry.Entry.{Entry}
-use Rattle.jsp_types.specs.Matching.{matches, template_of}
+use Rattle.std.specs.Prelude.{ℕ, ◌+◌, ◌==◌, [], ◌∷◌, ◌++◌, Option, unwrap_or}
+use Rattle.jsp_types.specs.Matching.{template_of}
 use Rattle.jsp_lease.specs.Granted.{ms_of}
 use Rattle.jsp_wire.specs.declared.ask.Contents.{Contents}
 use Rattle.jsp_model.specs.declared.state.State.{State}
-use Rattle.jsp_model.specs.declared.state.Row.{Row}
 use Rattle.jsp_model.specs.declared.state.MatchSet.{MatchSet}
 use Rattle.jsp_model.specs.Lookup.{update}
-use Rattle.jsp_model.specs.Sight.{readable}
 use Rattle.jsp_model.specs.Requests.{caller_of, place_of}
 
 -- the set that a request opens
@@ -28,15 +24,6 @@ opened st s q =
 -- it is there, and its number is drawn
 abbrev pub with_set : State → MatchSet → State
 with_set st m = record st { sets = st.sets ++ m ∷ []; next_number = st.next_number + 1 }
-
--- the set may still show the row
-abbrev pub shows : List Class → MatchSet → Row → Bool
-shows classes m row =
-    row.space == m.space && nat_lt m.cursor row.number && nat_lt row.number m.number && readable m.transaction row && matches classes m.template row.entry
-
--- the entries of those of these rows that the set may still show
-abbrev pub shown_among : List Class → MatchSet → List Row → List Entry
-shown_among classes m rows = map (λ row. row.entry) (filter (shows classes m) rows)
 
 -- its cursor goes there, if it goes anywhere
 abbrev pub to_cursor : Option ℕ → MatchSet → MatchSet

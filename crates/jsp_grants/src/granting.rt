@@ -5,8 +5,8 @@ ghost use Rattle.jsp_lease.specs.Granted.{granted as granted_of};
 ghost use Rattle.jsp_model.specs.Refusals.{grant_tests};
 ghost use Rattle.jsp_grants.specs.Granting.{own_tests};
 
+use jsp_core::Core;
 use jsp_lease::granted;
-use jsp_model::State;
 use jsp_reply::Refusal;
 use jsp_state::{is_used_up, space_refusal, templates_refusal};
 use jsp_types::Raw;
@@ -23,7 +23,7 @@ pub(crate) struct LeaseAsked<'a> {
 }
 
 /// Why it is refused, or nothing where it isn't; `is_full` where there are as many as may be.
-pub(crate) fn refuse_grant(state: &State, asked: &LeaseAsked, is_full: bool) -> Option<Refusal>
+pub(crate) fn refuse_grant(state: &Core, asked: &LeaseAsked, is_full: bool) -> Option<Refusal>
     ensures { result ≡ first_that (grant_tests state.now asked.now.space.now asked.now.template.now asked.now.lease asked.now.txn is_full) }
 {
     if let Some(refusal) = space_refusal(state, asked.space, asked.txn) {
@@ -35,7 +35,7 @@ pub(crate) fn refuse_grant(state: &State, asked: &LeaseAsked, is_full: bool) -> 
     refuse_lease(state, asked, is_full)
 }
 
-fn refuse_lease(state: &State, asked: &LeaseAsked, is_full: bool) -> Option<Refusal>
+fn refuse_lease(state: &Core, asked: &LeaseAsked, is_full: bool) -> Option<Refusal>
     ensures { result ≡ first_that (own_tests state.now asked.now.lease is_full) }
 {
     if has_bad_lease(asked) {

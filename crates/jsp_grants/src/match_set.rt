@@ -9,21 +9,22 @@ ghost use Rattle.jsp_model.specs.Lookup.{update, set_of as set_numbered, named a
 ghost use Rattle.jsp_model.specs.Limits.{are_rising};
 ghost use Rattle.jsp_model.specs.Refusals.{own_tests, set_tests, own_set as own};
 ghost use Rattle.jsp_model.specs.Changes.{open_set, rest_of_set, page_of as page, is_last_page as is_last, turn_page as turned, close_set as closed};
-ghost use Rattle.jsp_grants.specs.Paging.{opened, with_set, shows, shown_among, to_cursor, with_cursor};
+ghost use Rattle.jsp_grants.specs.Paging.{opened, with_set, to_cursor, with_cursor};
 ghost use Rattle.jsp_model.specs.declared.limits.TheConstants.{LAST_NUMBER, LAST_TIME, MOST_SETS};
 
 use crate::granting::{LeaseAsked, refuse_grant};
+use jsp_core::Core;
 use jsp_lease::ms_of;
-use jsp_model::{MOST_SETS, MatchSet, Rank, Row, State};
+use jsp_model::{MOST_SETS, MatchSet, Rank};
 use jsp_reply::{Refusal, Reply};
-use jsp_state::{caller_of, is_readable, named, place_of, template_of};
+use jsp_state::{caller_of, named, place_of, template_of};
 use jsp_transactions::{join, leave, remove};
-use jsp_types::{Classes, Entry, Items, NoMemory, matches};
+use jsp_types::{Items, NoMemory};
 use jsp_wire::Contents;
 use std::alloc::Global;
 
 /// Why a match set isn't opened, or nothing where it is.
-pub fn refuse_contents(state: &State, session: u64, id: u64, contents: &Contents) -> Option<Refusal>
+pub fn refuse_contents(state: &Core, session: u64, id: u64, contents: &Contents) -> Option<Refusal>
     ensures { result ≡ first_that (own_tests state.now session id (ask.Contents contents.now)) }
 {
     let asked = LeaseAsked {
@@ -35,7 +36,7 @@ pub fn refuse_contents(state: &State, session: u64, id: u64, contents: &Contents
     refuse_grant(state, &asked, is_full(state))
 }
 
-fn is_full(state: &State) -> bool
+fn is_full(state: &Core) -> bool
     ensures { result ≡ nat_le MOST_SETS (length state.now.sets) }
 {
     MOST_SETS <= state.sets.as_slice().len()
@@ -44,7 +45,7 @@ fn is_full(state: &State) -> bool
 /// Opens a match set, whole or not at all. The space joins its transaction.
 pub fn accept_contents(
     alloc: Global,
-    state: &mut State,
+    state: &mut Core,
     session: u64,
     id: u64,
     contents: &Contents,
@@ -69,7 +70,7 @@ pub fn accept_contents(
 
 fn new_set(
     alloc: Global,
-    state: &State,
+    state: &Core,
     session: u64,
     id: u64,
     contents: &Contents,
@@ -90,7 +91,7 @@ fn new_set(
     })
 }
 
-fn add(state: &mut State, set: MatchSet) -> Result<(), NoMemory>
+fn add(state: &mut Core, set: MatchSet) -> Result<(), NoMemory>
     requires { state.old.next_number ≤ LAST_NUMBER + 1 }
     ensures ok { OnOk result (state.new ≡ with_set state.old set) }
     ensures err { OnErr result (state.new ≡ state.old) }
@@ -101,7 +102,7 @@ fn add(state: &mut State, set: MatchSet) -> Result<(), NoMemory>
 }
 
 /// Why a match set is neither read nor closed: it isn't the session's own.
-pub fn refuse_set(state: &State, session: u64, set: &i64) -> Option<Refusal>
+pub fn refuse_set(state: &Core, session: u64, set: &i64) -> Option<Refusal>
     ensures { result ≡ first_that (set_tests state.now session set.now) }
 {
     if own_set(state, session, set).is_none() {
@@ -110,7 +111,7 @@ pub fn refuse_set(state: &State, session: u64, set: &i64) -> Option<Refusal>
     None
 }
 
-fn own_set<'a>(state: &'a State, session: u64, set: &i64) -> Option<&'a MatchSet>
+fn own_set<'a>(state: &'a Core, session: u64, set: &i64) -> Option<&'a MatchSet>
     ensures { option_copied result ≡ own state.now session set.now }
 {
     let number = named(*set);
@@ -124,7 +125,7 @@ fn find_own(sets: &[MatchSet], session: u64, number: u64) -> Option<&MatchSet>
         .find(|m| m.number == number && m.session == session)
 }
 
-fn set_of(state: &State, number: u64) -> Option<&MatchSet>
+fn set_of(state: &Core, number: u64) -> Option<&MatchSet>
     ensures { option_copied result ≡ set_numbered state.now number }
 {
     find_set(state.sets.as_slice(), number)
@@ -136,22 +137,10 @@ fn find_set(sets: &[MatchSet], number: u64) -> Option<&MatchSet>
     sets.iter().find(|m| m.number == number)
 }
 
-/// Whether the set may still show the row: it could be read, is of the set's space and template, above
-/// its cursor and below its own number.
-fn may_show(classes: &Classes, set: &MatchSet, row: &Row) -> bool
-    ensures { result ≡ shows classes.now set.now row.now }
-{
-    row.space == set.space
-        && set.cursor < row.number
-        && row.number < set.number
-        && is_readable(set.transaction, row)
-        && matches(classes, &set.template, &row.entry)
-}
-
 /// The entries of the next page, at most so many, and whether none is left beyond it.
 pub fn answer_next(
     alloc: Global,
-    state: &State,
+    state: &Core,
     id: u64,
     number: u64,
     most: u64,
@@ -170,66 +159,25 @@ pub fn answer_next(
 
 fn page_reply(
     alloc: Global,
-    state: &State,
+    state: &Core,
     id: u64,
     set: &MatchSet,
     most: u64,
 ) -> Result<Reply, NoMemory>
     ensures { IfOk result (λ r. r ≡ says.Page id (nat_le (length (rest_of_set state.now set.now)) most) (map (λ row. row.entry) (take most (rest_of_set state.now set.now)))) }
 {
-    let rows = state.rows.as_slice();
-    let left = count_shown(&state.classes, set, rows) as u64;
-    let entries = entries_shown(alloc, &state.classes, set, rows, most as usize)?;
+    let rows = &state.rows;
+    let more = rows.shows_more(&state.classes, set, most as usize);
+    let entries = rows.entries_shown(alloc, &state.classes, set, most as usize)?;
     Ok(Reply::Page {
         id,
-        end: left <= most,
+        end: !more,
         entries,
     })
 }
 
-fn count_shown(classes: &Classes, set: &MatchSet, rows: &[Row]) -> usize
-    ensures { result ≡ length (filter (shows classes.now set.now) rows.now) }
-{
-    rows.iter()
-        .filter(|row| may_show(classes, set, row))
-        .count()
-}
-
-fn entries_shown(
-    alloc: Global,
-    classes: &Classes,
-    set: &MatchSet,
-    rows: &[Row],
-    most: usize,
-) -> Result<Items<Entry>, NoMemory>
-    ensures { IfOk result (λ es. es ≡ map (λ row. row.entry) (take most (filter (shows classes.now set.now) rows.now))) }
-{
-    let mut entries = Items::new(alloc);
-    'rows: for row in rows {
-        if most <= entries.as_slice().len() {
-            return Ok(entries);
-        }
-        add_if_shown(&mut entries, classes, set, row)?;
-    }
-    Ok(entries)
-}
-
-fn add_if_shown(
-    entries: &mut Items<Entry>,
-    classes: &Classes,
-    set: &MatchSet,
-    row: &Row,
-) -> Result<(), NoMemory>
-    ensures { OnOk result (entries.new ≡ entries.old ++ shown_among classes.now set.now (row.now ∷ [])) }
-{
-    if may_show(classes, set, row) {
-        entries.push(row.entry.clone()?)?;
-    }
-    Ok(())
-}
-
 /// The cursor of a set goes to the last row of its next page, if that has any.
-pub fn turn_page(state: &mut State, set: &i64, most: &u64)
+pub fn turn_page(state: &mut Core, set: &i64, most: &u64)
     requires { IsTrue (are_rising 0 state.old.next_number (map (λ m. m.number) state.old.sets)) }
     ensures { state.new ≡ turned state.old (number_named set.now) most.now }
 {
@@ -244,7 +192,7 @@ fn number_of(set: &i64) -> u64
     named(*set)
 }
 
-fn turn_to(state: &mut State, number: u64, last: Option<u64>)
+fn turn_to(state: &mut Core, number: u64, last: Option<u64>)
     requires { IsTrue (are_rising 0 state.old.next_number (map (λ m. m.number) state.old.sets)) }
     ensures { state.new ≡ with_cursor state.old number last }
 {
@@ -253,30 +201,13 @@ fn turn_to(state: &mut State, number: u64, last: Option<u64>)
     move_cursor(&mut sets.items, below, number, last);
 }
 
-fn last_of_page(state: &State, number: u64, most: u64) -> Option<u64>
+fn last_of_page(state: &Core, number: u64, most: u64) -> Option<u64>
     ensures { result ≡ last_or None (map (λ row. row.number) (page state.now number most)) }
 {
     match set_of(state, number) {
         None => None,
-        Some(set) => last_shown(&state.classes, set, state.rows.as_slice(), most as usize),
+        Some(set) => state.rows.last_shown(&state.classes, set, most as usize),
     }
-}
-
-fn last_shown(classes: &Classes, set: &MatchSet, rows: &[Row], most: usize) -> Option<u64>
-    ensures { result ≡ last_or None (map (λ row. row.number) (take most (filter (shows classes.now set.now) rows.now))) }
-{
-    let mut last = None;
-    let mut count = 0;
-    'rows: for row in rows {
-        if most <= count {
-            return last;
-        }
-        if may_show(classes, set, row) {
-            last = Some(row.number);
-            count += 1;
-        }
-    }
-    last
 }
 
 fn move_cursor(sets: &mut [MatchSet], below: u64, number: u64, last: Option<u64>)
@@ -303,7 +234,7 @@ fn place_of_set(sets: &[MatchSet], number: u64) -> Option<usize>
 }
 
 /// Closes a match set.
-pub fn close_set(state: &mut State, number: u64)
+pub fn close_set(state: &mut Core, number: u64)
     ensures { state.new ≡ closed state.old number }
 {
     remove(state, Rank::MatchSet, number);

@@ -11,8 +11,9 @@ ghost use Rattle.jsp_grants.specs.Registering.{registered, with_registration, to
 ghost use Rattle.jsp_model.specs.declared.limits.TheConstants.{LAST_NUMBER, LAST_TIME, MOST_REGISTRATIONS};
 
 use crate::granting::{LeaseAsked, refuse_grant};
+use jsp_core::Core;
 use jsp_lease::ms_of;
-use jsp_model::{MOST_REGISTRATIONS, Registration, State};
+use jsp_model::{MOST_REGISTRATIONS, Registration};
 use jsp_reply::Refusal;
 use jsp_state::{caller_of, place_of, template_of};
 use jsp_transactions::{join, leave};
@@ -21,7 +22,7 @@ use jsp_wire::Notify;
 use std::alloc::Global;
 
 /// Why a registration is refused, or nothing where it isn't.
-pub fn refuse_notify(state: &State, session: u64, id: u64, notify: &Notify) -> Option<Refusal>
+pub fn refuse_notify(state: &Core, session: u64, id: u64, notify: &Notify) -> Option<Refusal>
     ensures { result ≡ first_that (own_tests state.now session id (ask.Notify notify.now)) }
 {
     let asked = LeaseAsked {
@@ -33,7 +34,7 @@ pub fn refuse_notify(state: &State, session: u64, id: u64, notify: &Notify) -> O
     refuse_grant(state, &asked, is_full(state))
 }
 
-fn is_full(state: &State) -> bool
+fn is_full(state: &Core) -> bool
     ensures { result ≡ nat_le MOST_REGISTRATIONS (length state.now.registrations) }
 {
     MOST_REGISTRATIONS <= state.registrations.as_slice().len()
@@ -42,7 +43,7 @@ fn is_full(state: &State) -> bool
 /// Registers the session for events, whole or not at all. The space joins its transaction.
 pub fn accept_notify(
     alloc: Global,
-    state: &mut State,
+    state: &mut Core,
     session: u64,
     id: u64,
     notify: &Notify,
@@ -67,7 +68,7 @@ pub fn accept_notify(
 
 fn new_registration(
     alloc: Global,
-    state: &State,
+    state: &Core,
     session: u64,
     id: u64,
     notify: &Notify,
@@ -91,7 +92,7 @@ fn new_registration(
     })
 }
 
-fn add(state: &mut State, registration: Registration) -> Result<(), NoMemory>
+fn add(state: &mut Core, registration: Registration) -> Result<(), NoMemory>
     requires { state.old.next_number ≤ LAST_NUMBER + 1 }
     ensures ok { OnOk result (state.new ≡ with_registration state.old registration) }
     ensures err { OnErr result (state.new ≡ state.old) }
@@ -103,7 +104,7 @@ fn add(state: &mut State, registration: Registration) -> Result<(), NoMemory>
 
 /// The next event of a registration is told: it is owed one less, and its sequence number rises by
 /// one.
-pub fn tell(state: &mut State, number: u64)
+pub fn tell(state: &mut Core, number: u64)
     requires rising { IsTrue (are_rising 0 state.old.next_number (map (λ r. r.number) state.old.registrations)) }
     requires sequences { IsTrue (list_all (λ r. nat_le (r.sequence + 1) (2 ^ 63)) state.old.registrations) }
     ensures { state.new ≡ told state.old number }

@@ -176,6 +176,18 @@ impl Leases {
         Ok(given)
     }
 
+    /// The item of this number ends then, which may be any time. Where there is none, all stays as it
+    /// was. It takes no memory.
+    pub fn set_end(&mut self, number: u64, end: u64)
+        ensures { self.new ≡ with_items self.old (ending_at number end self.old.items) }
+    {
+        let numbers = self.numbers.as_slice();
+        let Some((place, item)) = find_place(numbers, &self.tournament, number) else {
+            return;
+        };
+        self.tournament.set(place, Some(Item { end, ..item }));
+    }
+
     /// Cancels a lease: its item goes before its end (Jini Leasing), and is answered.
     /// `UnknownLease` where there is none. It takes no memory.
     pub fn cancel(&mut self, number: u64) -> Result<Item, LeaseFault>

@@ -6,6 +6,7 @@ use jsp_serve::{RunFault, serve};
 use std::io::{self, Write};
 use std::net::{Net, TcpListener, TcpStream};
 use std::process::ExitCode;
+use std::random::RandomSource;
 use std::sync::Wait;
 use std::thread::Threads;
 use std::time::Clock;
@@ -19,6 +20,7 @@ pub(crate) fn listen<
         + Print
         + Eprint
         + Clock
+        + RandomSource
         + Net<Listener = TcpListener, Stream = TcpStream>
         + Threads
         + Wait

@@ -1,12 +1,8 @@
 -- What has a lease, once that was renewed: the one of this number has this end.
 use Rattle.std.specs.Prelude.{ℕ, ◌==◌, if◌then◌else◌}
-use Rattle.jsp_model.specs.declared.state.Row.{Row}
 use Rattle.jsp_model.specs.declared.state.Registration.{Registration}
 use Rattle.jsp_model.specs.declared.state.Transaction.{Transaction}
 use Rattle.jsp_model.specs.declared.state.MatchSet.{MatchSet}
-
-abbrev pub row_ending : ℕ → ℕ → Row → Row
-row_ending n end r = if r.number == n then record r { end = end } else r
 
 abbrev pub registration_ending : ℕ → ℕ → Registration → Registration
 registration_ending n end r = if r.number == n then record r { end = end } else r

@@ -18,6 +18,7 @@ use crate::batch::{accept_cancel_all, accept_renew_all, cancel_answers, renew_an
 use crate::lease::{accept_cancel, accept_renew, answer_renew, refuse_cancel, refuse_renew};
 use crate::telling::{answer_commit, refuse_at, refuse_under};
 use crate::transaction::{refuse_begin, refuse_commit, refuse_reset, refuse_transaction, state_of};
+use jsp_core::Core;
 use jsp_entries::{
     accept_declare, accept_entries, accept_entry, accept_many, accept_one, answer_entries,
     answer_leased, answer_many, answer_one, refuse_declare, refuse_entries, refuse_entry,
@@ -27,7 +28,7 @@ use jsp_grants::{
     accept_contents, accept_notify, answer_next, close_set, refuse_contents, refuse_notify,
     refuse_set, turn_page,
 };
-use jsp_model::{Blocked, Form, State};
+use jsp_model::{Blocked, Form};
 use jsp_reply::{Refusal, Reply};
 use jsp_state::{close, is_waiting, named, names_of, place_of, set_version};
 use jsp_transactions::{abort, ask_commit, begin, reset};
@@ -41,7 +42,7 @@ use std::slice::from_ref;
 #[tactic(auto, unfolding(jsp_model::specs::Refusals::refusal))]
 pub fn refusal(
     alloc: Global,
-    state: &State,
+    state: &Core,
     session: u64,
     id: u64,
     ask: &Ask,
@@ -68,7 +69,7 @@ fn is_hello(ask: &Ask) -> bool
 /// Why a request is refused whatever its id.
 fn own_refusal(
     alloc: Global,
-    state: &State,
+    state: &Core,
     session: u64,
     id: u64,
     ask: &Ask,
@@ -108,7 +109,7 @@ fn own_refusal(
 /// Makes what a request changes that isn't refused, whole or not at all.
 pub fn accept(
     alloc: Global,
-    state: &mut State,
+    state: &mut Core,
     session: u64,
     id: u64,
     ask: &Ask,
@@ -131,7 +132,7 @@ pub fn accept(
 
 fn make(
     alloc: Global,
-    state: &mut State,
+    state: &mut Core,
     session: u64,
     id: u64,
     ask: &Ask,
@@ -207,7 +208,7 @@ fn make(
     }
 }
 
-fn accept_txn(alloc: Global, state: &mut State, lease: &i64) -> Result<(), NoMemory>
+fn accept_txn(alloc: Global, state: &mut Core, lease: &i64) -> Result<(), NoMemory>
     requires time { state.old.time ≤ LAST_TIME }
     requires numbers { state.old.next_number ≤ LAST_NUMBER + 1 }
     ensures ok { OnOk result (state.new ≡ begun state.old lease.now) }
@@ -220,7 +221,7 @@ fn accept_txn(alloc: Global, state: &mut State, lease: &i64) -> Result<(), NoMem
 /// What a request that isn't refused is answered, where it is answered at once.
 pub fn answer(
     alloc: Global,
-    state: &State,
+    state: &Core,
     session: u64,
     id: u64,
     ask: &Ask,
@@ -238,7 +239,7 @@ pub fn answer(
 
 fn own_answer(
     alloc: Global,
-    state: &State,
+    state: &Core,
     session: u64,
     id: u64,
     ask: &Ask,
@@ -295,7 +296,7 @@ fn own_answer(
 }
 
 /// What others are told by a request that isn't refused, each to its session.
-pub fn told_others(alloc: Global, state: &State, ask: &Ask) -> Result<Vec<(u64, Reply)>, NoMemory>
+pub fn told_others(alloc: Global, state: &Core, ask: &Ask) -> Result<Vec<(u64, Reply)>, NoMemory>
     ensures { IfOk result (λ v. v.items ≡ others_told state.now ask.now) }
 {
     match ask {
@@ -308,7 +309,7 @@ pub fn told_others(alloc: Global, state: &State, ask: &Ask) -> Result<Vec<(u64, 
     }
 }
 
-fn told_by_abort(alloc: Global, state: &State, x: u64) -> Result<Vec<(u64, Reply)>, NoMemory>
+fn told_by_abort(alloc: Global, state: &Core, x: u64) -> Result<Vec<(u64, Reply)>, NoMemory>
     ensures { IfOk result (λ v. v.items ≡ commit_answered state.now x aborted_reply ++ refused_under state.now (x ∷ [])) }
 {
     let mut told = answer_commit(alloc, state, x, false)?;
@@ -319,7 +320,7 @@ fn told_by_abort(alloc: Global, state: &State, x: u64) -> Result<Vec<(u64, Reply
 
 fn told_by_cancels(
     alloc: Global,
-    state: &State,
+    state: &Core,
     leases: &[i64],
 ) -> Result<Vec<(u64, Reply)>, NoMemory>
     ensures { IfOk result (λ v. v.items ≡ refused_under state.now (map number_named leases.now)) }
@@ -341,7 +342,7 @@ fn numbers_of(alloc: Global, leases: &[i64]) -> Result<Vec<u64>, NoMemory>
 /// The request for rows as it would wait, if the request is for rows.
 pub fn request_for_rows(
     alloc: Global,
-    state: &State,
+    state: &Core,
     session: u64,
     id: u64,
     ask: &Ask,
@@ -355,7 +356,7 @@ pub fn request_for_rows(
 
 fn waiting_request(
     alloc: Global,
-    state: &State,
+    state: &Core,
     session: u64,
     id: u64,
     ask: &Ask,

@@ -10,15 +10,15 @@ ghost use Rattle.jsp_model.proofs.Cancelling.{is_cancellable as cancels, is_ende
 ghost use Rattle.jsp_model.specs.declared.limits.TheConstants.{LAST_TIME};
 
 use crate::lease::{accept_cancel, accept_renew, refuse_cancel, refuse_renew};
+use jsp_core::Core;
 use jsp_lease::ms_of;
-use jsp_model::State;
 use jsp_reply::{LeaseAnswer, LeaseOutcome, Refusal};
 use jsp_state::{is_caller, is_living, is_voting, named, rank_of};
 use jsp_types::{Items, NoMemory};
 use std::alloc::Global;
 
 /// Renews leases in their order.
-pub(crate) fn accept_renew_all(state: &mut State, leases: &[(i64, i64)])
+pub(crate) fn accept_renew_all(state: &mut Core, leases: &[(i64, i64)])
     requires { state.old.time ≤ LAST_TIME }
     ensures { state.new ≡ fold one_renewed state.old leases.now }
 {
@@ -27,7 +27,7 @@ pub(crate) fn accept_renew_all(state: &mut State, leases: &[(i64, i64)])
     }
 }
 
-fn renew_one(state: &mut State, lease: &(i64, i64))
+fn renew_one(state: &mut Core, lease: &(i64, i64))
     requires { state.old.time ≤ LAST_TIME }
     ensures made { state.new ≡ one_renewed state.old lease.now }
     ensures time { state.new.time ≡ state.old.time }
@@ -38,7 +38,7 @@ fn renew_one(state: &mut State, lease: &(i64, i64))
 }
 
 /// Cancels leases in their order.
-pub(crate) fn accept_cancel_all(state: &mut State, leases: &[i64])
+pub(crate) fn accept_cancel_all(state: &mut Core, leases: &[i64])
     ensures { state.new ≡ fold one_cancelled state.old leases.now }
 {
     'leases: for lease in leases {
@@ -46,7 +46,7 @@ pub(crate) fn accept_cancel_all(state: &mut State, leases: &[i64])
     }
 }
 
-fn cancel_one(state: &mut State, lease: &i64)
+fn cancel_one(state: &mut Core, lease: &i64)
     ensures { state.new ≡ one_cancelled state.old lease.now }
 {
     if refuse_cancel(state, lease).is_none() {
@@ -58,7 +58,7 @@ fn cancel_one(state: &mut State, lease: &i64)
 /// by the state before all of them.
 pub(crate) fn renew_answers(
     alloc: Global,
-    state: &State,
+    state: &Core,
     leases: &[(i64, i64)],
 ) -> Result<Items<LeaseAnswer>, NoMemory>
     ensures { IfOk result (λ v. v ≡ scan one_renewed renew_answer state.now leases.now) }
@@ -70,7 +70,7 @@ pub(crate) fn renew_answers(
     Ok(answers)
 }
 
-fn renewal(state: &State, lease: &(i64, i64)) -> LeaseAnswer
+fn renewal(state: &Core, lease: &(i64, i64)) -> LeaseAnswer
     ensures { result ≡ renew_answer state.now lease.now }
 {
     let outcome = match refuse_renew(state, &lease.0, &lease.1) {
@@ -86,7 +86,7 @@ fn renewal(state: &State, lease: &(i64, i64)) -> LeaseAnswer
 /// What becomes of each lease that is to be cancelled, by the state before any is.
 pub(crate) fn cancel_answers(
     alloc: Global,
-    state: &State,
+    state: &Core,
     leases: &[i64],
 ) -> Result<Items<LeaseAnswer>, NoMemory>
     requires { (n : ℕ) → bearers state.now n ≤ 1 }
@@ -99,7 +99,7 @@ pub(crate) fn cancel_answers(
     Ok(answers)
 }
 
-fn cancellation(state: &State, earlier: &[i64], lease: &i64) -> LeaseAnswer
+fn cancellation(state: &Core, earlier: &[i64], lease: &i64) -> LeaseAnswer
     ensures { result ≡ record { lease = lease.now; outcome = outcome_of state.now earlier.now lease.now } }
 {
     LeaseAnswer {
@@ -109,7 +109,7 @@ fn cancellation(state: &State, earlier: &[i64], lease: &i64) -> LeaseAnswer
 }
 
 /// What becomes of the lease, once the earlier ones of the batch are cancelled.
-fn cancel_outcome(state: &State, earlier: &[i64], lease: &i64) -> LeaseOutcome
+fn cancel_outcome(state: &Core, earlier: &[i64], lease: &i64) -> LeaseOutcome
     ensures { result ≡ outcome_of state.now earlier.now lease.now }
 {
     let number = named(*lease);
@@ -122,7 +122,7 @@ fn cancel_outcome(state: &State, earlier: &[i64], lease: &i64) -> LeaseOutcome
     }
 }
 
-fn still_names(state: &State, earlier: &[i64], number: u64) -> bool
+fn still_names(state: &Core, earlier: &[i64], number: u64) -> bool
     ensures { result ≡ names_still state.now earlier.now number }
 {
     is_row_left(state, earlier, number)
@@ -131,14 +131,16 @@ fn still_names(state: &State, earlier: &[i64], number: u64) -> bool
         || is_set_left(state, earlier, number)
 }
 
-fn is_row_left(state: &State, earlier: &[i64], number: u64) -> bool
+fn is_row_left(state: &Core, earlier: &[i64], number: u64) -> bool
     ensures { result ≡ list_any (λ r. r.number == number && not (ended state.now earlier.now r.number r.writer)) state.now.rows }
 {
-    state.rows.as_slice().iter().any(|row| row.number == number
-        && !is_ended(state, earlier, row.number, row.writer))
+    state.rows.any_of(
+        number,
+        |row| !is_ended(state, earlier, row.number, row.writer),
+    )
 }
 
-fn is_registration_left(state: &State, earlier: &[i64], number: u64) -> bool
+fn is_registration_left(state: &Core, earlier: &[i64], number: u64) -> bool
     ensures { result ≡ list_any (λ r. r.number == number && not (ended state.now earlier.now r.number r.transaction)) state.now.registrations }
 {
     let registrations = state.registrations.as_slice();
@@ -146,14 +148,14 @@ fn is_registration_left(state: &State, earlier: &[i64], number: u64) -> bool
         && !is_ended(state, earlier, r.number, r.transaction))
 }
 
-fn is_transaction_left(state: &State, earlier: &[i64], number: u64) -> bool
+fn is_transaction_left(state: &Core, earlier: &[i64], number: u64) -> bool
     ensures { result ≡ list_any (λ t. t.number == number && not (ended state.now earlier.now t.number None)) state.now.transactions }
 {
     let transactions = state.transactions.as_slice();
     transactions.iter().any(|t| t.number == number && !is_ended(state, earlier, t.number, None))
 }
 
-fn is_set_left(state: &State, earlier: &[i64], number: u64) -> bool
+fn is_set_left(state: &Core, earlier: &[i64], number: u64) -> bool
     ensures { result ≡ list_any (λ m. m.number == number && not (ended state.now earlier.now m.number m.transaction)) state.now.sets }
 {
     state.sets.as_slice().iter().any(|m| m.number == number
@@ -162,13 +164,13 @@ fn is_set_left(state: &State, earlier: &[i64], number: u64) -> bool
 
 /// Whether one of these leases, once cancelled, ends what has the number, or the transaction that it
 /// is under.
-fn is_ended(state: &State, leases: &[i64], number: u64, under: Option<u64>) -> bool
+fn is_ended(state: &Core, leases: &[i64], number: u64, under: Option<u64>) -> bool
     ensures { result ≡ ended state.now leases.now number under }
 {
     leases.iter().any(|lease| ends(state, lease, number, under))
 }
 
-fn ends(state: &State, lease: &i64, number: u64, under: Option<u64>) -> bool
+fn ends(state: &Core, lease: &i64, number: u64, under: Option<u64>) -> bool
     ensures { result ≡ ends_it state.now lease.now number under }
 {
     let cancelled = named(*lease);
@@ -176,7 +178,7 @@ fn ends(state: &State, lease: &i64, number: u64, under: Option<u64>) -> bool
         && (number == cancelled || is_caller(under, cancelled) && is_living(state, cancelled))
 }
 
-fn is_cancellable(state: &State, number: u64) -> bool
+fn is_cancellable(state: &Core, number: u64) -> bool
     ensures { result ≡ cancels state.now number }
 {
     rank_of(state, number).is_some() && !is_voting(state, number)

@@ -1,18 +1,19 @@
 //! Setting the end of what has a lease.
 ghost use Rattle.std.specs.Prelude.{◌≡◌, map};
 ghost use Rattle.jsp_model.specs.Changes.{extend as extended};
-ghost use Rattle.jsp_requests.specs.Ending.{row_ending, registration_ending, transaction_ending, set_ending};
+ghost use Rattle.jsp_requests.specs.Ending.{registration_ending, transaction_ending, set_ending};
 
-use jsp_model::{MatchSet, Rank, Registration, Row, State, Transaction};
+use jsp_core::Core;
+use jsp_model::{MatchSet, Rank, Registration, Transaction};
 
 /// What has this number ends then.
-pub(crate) fn extend(state: &mut State, end: u64, rank: Rank, number: u64)
+pub(crate) fn extend(state: &mut Core, end: u64, rank: Rank, number: u64)
     ensures { state.new ≡ extended state.old end rank number }
 {
     match rank {
         Rank::Entry => {
             let rows = &mut state.rows;
-            extend_rows(&mut rows.items, number, end);
+            rows.extend(number, end);
         }
         Rank::Registration => {
             let registrations = &mut state.registrations;
@@ -27,22 +28,6 @@ pub(crate) fn extend(state: &mut State, end: u64, rank: Rank, number: u64)
             let sets = &mut state.sets;
             extend_sets(&mut sets.items, number, end);
         }
-    }
-}
-
-fn extend_rows(rows: &mut [Row], number: u64, end: u64)
-    ensures { rows.new ≡ map (row_ending number end) rows.old }
-{
-    'rows: for row in rows.iter_mut() {
-        extend_row(row, number, end);
-    }
-}
-
-fn extend_row(row: &mut Row, number: u64, end: u64)
-    ensures { row.new ≡ row_ending number end row.old }
-{
-    if row.number == number {
-        row.end = end;
     }
 }
 

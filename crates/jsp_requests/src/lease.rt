@@ -9,15 +9,15 @@ ghost use Rattle.jsp_model.specs.Changes.{renew as renewed, cancel as cancelled}
 ghost use Rattle.jsp_model.specs.declared.limits.TheConstants.{LAST_TIME};
 
 use crate::extend::extend;
+use jsp_core::Core;
 use jsp_lease::{granted, ms_of};
-use jsp_model::State;
 use jsp_reply::{Refusal, Reply};
 use jsp_state::{is_voting, named, rank_of};
 use jsp_transactions::remove;
 
 /// Why a lease is neither renewed nor cancelled: nothing has the number, or it is a transaction whose
 /// commit was asked.
-pub(crate) fn refuse_cancel(state: &State, lease: &i64) -> Option<Refusal>
+pub(crate) fn refuse_cancel(state: &Core, lease: &i64) -> Option<Refusal>
     ensures { result ≡ first_that (lease_tests state.now lease.now) }
 {
     let number = named(*lease);
@@ -31,7 +31,7 @@ pub(crate) fn refuse_cancel(state: &State, lease: &i64) -> Option<Refusal>
 }
 
 /// Why a lease isn't renewed for this time.
-pub(crate) fn refuse_renew(state: &State, lease: &i64, ms: &i64) -> Option<Refusal>
+pub(crate) fn refuse_renew(state: &Core, lease: &i64, ms: &i64) -> Option<Refusal>
     ensures { result ≡ first_that (renew_tests state.now lease.now ms.now) }
 {
     let number = named(*lease);
@@ -56,7 +56,7 @@ pub(crate) fn grants_nothing(ms: &i64) -> bool
 
 /// Renews a lease: it ends when the time that is granted has passed from now on, whatever was left of
 /// it.
-pub(crate) fn accept_renew(state: &mut State, lease: &i64, ms: &i64)
+pub(crate) fn accept_renew(state: &mut Core, lease: &i64, ms: &i64)
     requires { state.old.time ≤ LAST_TIME }
     ensures made { state.new ≡ renewed state.old lease.now ms.now }
     ensures time { state.new.time ≡ state.old.time }
@@ -70,7 +70,7 @@ pub(crate) fn accept_renew(state: &mut State, lease: &i64, ms: &i64)
 }
 
 /// Cancels a lease: what it is for goes; a transaction aborts.
-pub(crate) fn accept_cancel(state: &mut State, lease: &i64)
+pub(crate) fn accept_cancel(state: &mut Core, lease: &i64)
     ensures { state.new ≡ cancelled state.old lease.now }
 {
     let number = named(*lease);

@@ -13,8 +13,6 @@ mod batch;
 mod extend;
 mod lease;
 mod telling;
-#[cfg(test)]
-mod tests;
 mod transaction;
 
 pub use ask::{accept, answer, refusal, request_for_rows, told_others};

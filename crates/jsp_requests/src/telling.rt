@@ -7,7 +7,8 @@ ghost use Rattle.jsp_model.specs.Lookup.{is_caller as calls};
 ghost use Rattle.jsp_model.specs.Answers.{refuse_under as refused_under, answer_commit as commit_answered, aborted_reply};
 ghost use Rattle.jsp_requests.specs.Telling.{under_refused, at_space_refused, commits_answered, decision};
 
-use jsp_model::{Blocked, Commit, State};
+use jsp_core::Core;
+use jsp_model::{Blocked, Commit};
 use jsp_reply::{Refusal, Reply};
 use jsp_state::is_caller;
 use jsp_types::NoMemory;
@@ -17,7 +18,7 @@ use std::alloc::Global;
 /// arrival order (this profile's own).
 pub fn refuse_under(
     alloc: Global,
-    state: &State,
+    state: &Core,
     transactions: &[u64],
 ) -> Result<Vec<(u64, Reply)>, NoMemory>
     ensures { IfOk result (λ v. v.items ≡ refused_under state.now transactions.now) }
@@ -71,7 +72,7 @@ fn refusal_of(id: u64, refusal: Refusal) -> Reply
 /// (this profile's own).
 pub(crate) fn refuse_at(
     alloc: Global,
-    state: &State,
+    state: &Core,
     space: u64,
 ) -> Result<Vec<(u64, Reply)>, NoMemory>
     ensures { IfOk result (λ v. v.items ≡ at_space_refused space state.now.blocked) }
@@ -106,7 +107,7 @@ fn refuse_if_at(told: &mut Vec<(u64, Reply)>, request: &Blocked, space: u64) -> 
 /// transaction is aborted (Jini Transactions).
 pub fn answer_commit(
     alloc: Global,
-    state: &State,
+    state: &Core,
     x: u64,
     commits: bool,
 ) -> Result<Vec<(u64, Reply)>, NoMemory>

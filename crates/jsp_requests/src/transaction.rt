@@ -9,14 +9,15 @@ ghost use Rattle.jsp_model.specs.declared.limits.TheConstants.{MOST_TRANSACTIONS
 ghost use Rattle.jsp_model.specs.Refusals.{begin_tests, txn_tests, commit_tests, reset_tests, is_in_doubt as in_doubt, is_prepared as prepared};
 
 use crate::lease::grants_nothing;
-use jsp_model::{Joined, LAST_CRASH_COUNT, MOST_TRANSACTIONS, State, Transaction, Vote};
+use jsp_core::Core;
+use jsp_model::{Joined, LAST_CRASH_COUNT, MOST_TRANSACTIONS, Transaction, Vote};
 use jsp_reply::{Refusal, TxnState};
 use jsp_state::{
     crash_count, is_living, is_used_up, is_voting, named, place_of, space_named, waits_for_many,
 };
 
 /// Why a transaction isn't begun, or nothing where it is.
-pub(crate) fn refuse_begin(state: &State, lease: &i64) -> Option<Refusal>
+pub(crate) fn refuse_begin(state: &Core, lease: &i64) -> Option<Refusal>
     ensures { result ≡ first_that (begin_tests state.now lease.now) }
 {
     if grants_nothing(lease) {
@@ -31,14 +32,14 @@ pub(crate) fn refuse_begin(state: &State, lease: &i64) -> Option<Refusal>
     None
 }
 
-fn is_full(state: &State) -> bool
+fn is_full(state: &Core) -> bool
     ensures { result ≡ nat_le MOST_TRANSACTIONS (length state.now.transactions) }
 {
     MOST_TRANSACTIONS <= state.transactions.as_slice().len()
 }
 
 /// Why nothing is asked of a transaction: there is none of this number.
-pub(crate) fn refuse_transaction(state: &State, txn: &i64) -> Option<Refusal>
+pub(crate) fn refuse_transaction(state: &Core, txn: &i64) -> Option<Refusal>
     ensures { result ≡ first_that (txn_tests state.now txn.now) }
 {
     if !is_living(state, named(*txn)) {
@@ -48,7 +49,7 @@ pub(crate) fn refuse_transaction(state: &State, txn: &i64) -> Option<Refusal>
 }
 
 /// Why a commit can't be asked, or nothing where it can.
-pub(crate) fn refuse_commit(state: &State, session: u64, txn: &i64) -> Option<Refusal>
+pub(crate) fn refuse_commit(state: &Core, session: u64, txn: &i64) -> Option<Refusal>
     ensures { result ≡ first_that (commit_tests state.now session txn.now) }
 {
     let number = named(*txn);
@@ -65,7 +66,7 @@ pub(crate) fn refuse_commit(state: &State, session: u64, txn: &i64) -> Option<Re
 }
 
 /// Whether the transaction is active, or its commit was asked.
-pub(crate) fn state_of(state: &State, txn: &i64) -> TxnState
+pub(crate) fn state_of(state: &Core, txn: &i64) -> TxnState
     ensures { result ≡ (if votes state.now (number_named txn.now) then voting else active) }
 {
     if is_voting(state, named(*txn)) {
@@ -76,7 +77,7 @@ pub(crate) fn state_of(state: &State, txn: &i64) -> TxnState
 }
 
 /// Why a space isn't reset, or nothing where it is.
-pub(crate) fn refuse_reset(state: &State, space: &str) -> Option<Refusal>
+pub(crate) fn refuse_reset(state: &Core, space: &str) -> Option<Refusal>
     ensures { result ≡ first_that (reset_tests state.now space.now) }
 {
     if space_named(state, space).is_none() {
@@ -93,7 +94,7 @@ pub(crate) fn refuse_reset(state: &State, space: &str) -> Option<Refusal>
 }
 
 /// Whether a prepared vote of the space awaits its decision.
-fn is_in_doubt(state: &State, space: u64) -> bool
+fn is_in_doubt(state: &Core, space: u64) -> bool
     ensures { result ≡ in_doubt state.now space }
 {
     state

@@ -1,34 +1,20 @@
 -- A step that may come may come as well after steps that nobody asked for, and it is legal once nothing is due and what
 -- it touches is quiet.
-use Rattle.std.proofs.Common.{◌≡◌, refl, ap, sym, ◌∙◌, subst, ℕ, ◌^◌, List, [], ◌∷◌, ◌++◌, map, Bool, true, false, not, cond, ◌&&◌, ◌||◌, inl, inr, Option, Some, None, is_some, is_none, ◌==◌, nat_lt, nat_le, true≢false}
-use Rattle.std.specs.Prelude.{find, filter, if◌then◌else◌}
+use Rattle.std.proofs.Common.{◌≡◌, refl, ap, sym, ◌∙◌, subst, ℕ, ◌^◌, List, true, false, ◌&&◌, None, is_some, is_none, ◌==◌, nat_lt, nat_le}
+use Rattle.std.specs.Prelude.{find, if◌then◌else◌}
 use Rattle.std.specs.List.{list_any, list_all}
 use Rattle.std.specs.Option.{option_map_or}
-use Rattle.std.proofs.lemmas.Bool.{and_parts, and_from, eqb-true, eq-eqb, not-true, or_parts}
-use Rattle.jsp_lease.specs.declared.item.Item.{Item}
-use Rattle.jsp_lease.specs.declared.item.Rank.{Rank}
-use Rattle.jsp_lease.specs.declared.item.Rank.TheVariants as rank
-use Rattle.jsp_lease.specs.Due.{first_item, is_before, is_item, over_by, rank_number}
+use Rattle.std.proofs.lemmas.Bool.{and_parts, and_from}
 use Rattle.jsp_model.specs.declared.state.State.{State}
-use Rattle.jsp_model.specs.declared.state.Row.{Row}
-use Rattle.jsp_model.specs.declared.state.Registration.{Registration}
-use Rattle.jsp_model.specs.declared.state.Blocked.{Blocked}
-use Rattle.jsp_model.specs.declared.state.Transaction.{Transaction}
-use Rattle.jsp_model.specs.declared.state.MatchSet.{MatchSet}
 use Rattle.jsp_model.specs.declared.state.Commit.{Commit}
 use Rattle.jsp_model.specs.declared.step.Step.{Step}
 use Rattle.jsp_model.specs.declared.step.Step.TheVariants as step
-use Rattle.jsp_model.specs.Lookup.{is_open, is_voting, joined_of, joined_at, blocked_of}
-use Rattle.jsp_model.specs.Due.{due, items}
+use Rattle.jsp_model.specs.Lookup.{is_voting, joined_of, joined_at}
+use Rattle.jsp_model.specs.Due.{due}
 use Rattle.jsp_model.specs.Quiet.{are_quiet}
 use Rattle.jsp_model.specs.Touches.{touches}
-use Rattle.jsp_model.specs.Changes.{remove}
-use Rattle.jsp_model.specs.Steps.{is_legal, next, is_fault, is_vote_to_abort, is_vote_to_commit, after_grant}
-use Rattle.jsp_model.specs.Runs.{is_run, state_after, IsRun}
+use Rattle.jsp_model.specs.Steps.{is_legal, is_fault, is_vote_to_abort, is_vote_to_commit}
 use Rattle.jsp_model.specs.House.{Goes, is_unasked, bare}
-use Rattle.jsp_laws.proofs.Lists.{Each, each_map, each_append, each_kept, each_filter}
-use Rattle.jsp_laws.proofs.Made.{and_both, each_true}
-use Rattle.jsp_laws.proofs.Joins.{without_other}
 use Rattle.jsp_quiet.proofs.Unasked.{LeavesVotes, free_run_leaves}
 use Rattle.jsp_rows.specs.Making.{may_come, has_rows}
 

@@ -1,20 +1,18 @@
 -- Steps that nobody asked for, one after another, and what they leave owed.
-use Rattle.std.proofs.Common.{◌≡◌, refl, ap, sym, ◌∙◌, subst, ℕ, ◌+◌, ◌<◌, List, [], ◌∷◌, ◌++◌, Bool, true, ◌||◌, Ok, Err, append_assoc, inl, inr, ◌==◌}
+use Rattle.std.proofs.Common.{◌≡◌, refl, ap, sym, ◌∙◌, subst, ℕ, ◌+◌, ◌<◌, List, [], ◌∷◌, ◌++◌, true, Ok, Err, inl, inr, ◌==◌}
 use Rattle.std.specs.Prelude.{Option, None, option_map}
-use Rattle.std.specs.List.{list_all}
-use Rattle.std.proofs.lemmas.Bool.{and_parts, and_from, or_right, eq-eqb}
+use Rattle.std.proofs.lemmas.Bool.{or_right, eq-eqb}
 use Rattle.jsp_model.specs.declared.state.State.{State}
 use Rattle.jsp_model.specs.declared.step.Step.{Step}
 use Rattle.jsp_model.specs.declared.house.Stopped.{Stopped}
 use Rattle.jsp_model.specs.Lookup.{contains}
-use Rattle.jsp_model.specs.Due.{due}
-use Rattle.jsp_model.specs.Quiet.{is_quiet, are_quiet}
+use Rattle.jsp_model.specs.Quiet.{is_quiet}
 use Rattle.jsp_model.specs.Touches.{touches}
 use Rattle.jsp_model.specs.Steps.{is_legal, next}
 use Rattle.jsp_model.specs.Runs.{state_after}
-use Rattle.jsp_model.specs.House.{Covers, Goes, Makes, Leaves, Finishes, own_of, bare, is_unasked, touched}
+use Rattle.jsp_model.specs.House.{Covers, Goes, Makes, Finishes, is_unasked, touched}
 use Rattle.jsp_model.proofs.Joining.{own_of-append, Makes-none, Makes-then}
-use Rattle.jsp_laws.proofs.Lists.{Has, each_numbers, each_has, each_by_all}
+use Rattle.jsp_laws.proofs.Lists.{Has}
 use Rattle.jsp_quiet.specs.Quieting.{left_to_say, living}
 use Rattle.jsp_quiet.proofs.Covering.{all_both, all_parts, covered, covers_more, touched-append}
 use Rattle.jsp_rows.specs.Owing.{IsDone}

@@ -1,6 +1,6 @@
 -- Handing out answers, and closing sessions.
 use Rattle.std.proofs.Common.{◌≡◌, ℕ, ◌≤◌, List, [], ◌∷◌, ◌++◌, false, true, eqb, length, min, refl, ap, sym, ◌∙◌}
-use Rattle.std.specs.Prelude.{take, ◌==◌}
+use Rattle.std.specs.Prelude.{take}
 use Rattle.std.proofs.lemmas.Bool.{le-leb}
 use Rattle.std.proofs.lemmas.List.{take_min, length-take-le}
 use Rattle.jsp_reply.specs.declared.reply.Reply.{Reply}

@@ -1,8 +1,8 @@
 -- Where no transaction votes, a settle turn makes a space quiet, or all are.
-use Rattle.std.proofs.Common.{◌≡◌, refl, sym, ◌∙◌, subst, ℕ, List, [], ◌∷◌, ◌++◌, length, Bool, true, false, not, ◌||◌, Option, Some, None, Ok, Err}
+use Rattle.std.proofs.Common.{◌≡◌, refl, sym, ◌∙◌, subst, ℕ, List, [], ◌∷◌, ◌++◌, length, Bool, true, false, not, Some, None, Ok, Err}
 use Rattle.std.specs.Prelude.{if◌then◌else◌, option_to_list}
 use Rattle.std.specs.List.{list_all, range_with_len}
-use Rattle.std.proofs.lemmas.Bool.{and_parts, and_from, or_right}
+use Rattle.std.proofs.lemmas.Bool.{and_parts}
 use Rattle.jsp_model.specs.declared.state.State.{State}
 use Rattle.jsp_model.specs.declared.state.Space.{Space}
 use Rattle.jsp_model.specs.declared.step.Step.{Step}
@@ -13,7 +13,7 @@ use Rattle.jsp_model.specs.Lookup.{contains}
 use Rattle.jsp_model.specs.Quiet.{is_quiet, are_quiet}
 use Rattle.jsp_model.specs.Runs.{state_after}
 use Rattle.jsp_model.specs.Settling.{settle_step, first_unquiet, places, AllQuiet}
-use Rattle.jsp_model.specs.House.{Covers, Settles, Finishes, is_unasked, own_of, touched}
+use Rattle.jsp_model.specs.House.{Covers, Settles, Finishes, touched}
 use Rattle.jsp_model.proofs.Joining.{Makes-none}
 use Rattle.jsp_model.proofs.Closing.{free_run_spaces}
 use Rattle.jsp_laws.proofs.Lists.{each_has, each_by_all, each_numbers}

@@ -1,8 +1,7 @@
 -- The rows of a request's step: none, or a choice.
-use Rattle.std.proofs.Common.{◌≡◌, ℕ, ◌<◌, Bool, true, List, [], ◌∷◌, map, take, Option, Some, None, refl, ap, sym, ◌∙◌, arith}
-use Rattle.std.specs.Prelude.{◌&&◌, nat_lt, option_map}
+use Rattle.std.proofs.Common.{◌≡◌, ℕ, ◌<◌, true, List, [], ◌∷◌, map, take, Option, Some, None, refl, ap, sym, ◌∙◌, arith}
+use Rattle.std.specs.Prelude.{nat_lt, option_map}
 use Rattle.std.proofs.lemmas.Bool.{and_parts, ltb-true}
-use Rattle.jsp_reply.specs.declared.refusal.Refusal.{Refusal}
 use Rattle.jsp_model.specs.declared.state.State.{State}
 use Rattle.jsp_model.specs.declared.state.Blocked.{Blocked}
 use Rattle.jsp_model.specs.declared.state.Row.{Row}

@@ -15,7 +15,7 @@ use Rattle.jsp_model.specs.Quiet.{is_quiet, are_quiet}
 use Rattle.jsp_model.specs.Touches.{touches}
 use Rattle.jsp_model.specs.Steps.{is_legal, next}
 use Rattle.jsp_model.specs.Runs.{state_after}
-use Rattle.jsp_model.specs.House.{Goes, Acts, OpensNone, accepts, acted, own_of, touched}
+use Rattle.jsp_model.specs.House.{Goes, Acts, OpensNone, accepts, touched}
 use Rattle.jsp_model.proofs.Joining.{own_of-append, Makes-then}
 use Rattle.jsp_rows.specs.Owing.{IsDone}
 use Rattle.jsp_quiet.proofs.Covering.{all_both, all_parts, covered, touched-append}

@@ -1,6 +1,6 @@
 -- A step that was asked for, with what goes before it and follows from it.
-use Rattle.std.proofs.Common.{◌≡◌, refl, ap, sym, ◌∙◌, subst, ℕ, List, [], ◌∷◌, ◌++◌, Bool, true, false, ◌||◌, Result, Ok, Err}
-use Rattle.std.specs.Prelude.{Some, None, OnOk, OnErr, IfErr}
+use Rattle.std.proofs.Common.{◌≡◌, refl, ap, sym, ◌∙◌, ℕ, List, [], ◌∷◌, ◌++◌, Bool, true, false, Result, Ok, Err}
+use Rattle.std.specs.Prelude.{Some, OnOk, IfErr}
 use Rattle.std.specs.List.{list_all}
 use Rattle.jsp_model.specs.declared.state.State.{State}
 use Rattle.jsp_model.specs.declared.step.Step.{Step}
@@ -10,12 +10,12 @@ use Rattle.jsp_model.specs.Quiet.{is_quiet, are_quiet}
 use Rattle.jsp_model.specs.Touches.{touches}
 use Rattle.jsp_model.specs.Steps.{is_legal, next}
 use Rattle.jsp_model.specs.Runs.{state_after}
-use Rattle.jsp_model.specs.House.{Covers, Goes, Makes, Leaves, Finishes, own_of, bare, is_unasked, touched, was_done}
+use Rattle.jsp_model.specs.House.{Covers, Goes, Leaves, Finishes, bare, touched}
 use Rattle.jsp_model.proofs.Joining.{own_of-append, Makes-then}
 use Rattle.jsp_rows.specs.Owing.{IsDone}
 use Rattle.jsp_rows.specs.Making.{Performs, MakesOwn, may_come, has_rows, if_done}
-use Rattle.jsp_quiet.proofs.Covering.{all_both, all_parts, covered, covers_more, touched-append}
-use Rattle.jsp_rows.proofs.Going.{makes_one, goes_none}
+use Rattle.jsp_quiet.proofs.Covering.{all_both, all_parts, covered, touched-append}
+use Rattle.jsp_rows.proofs.Going.{makes_one}
 use Rattle.jsp_rows.proofs.Coming.{come_legal, come_bare, comes_asked, touches_bare}
 
 -- ---- the step is made

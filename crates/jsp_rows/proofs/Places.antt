@@ -14,7 +14,7 @@ use Rattle.jsp_model.specs.Lookup.{contains}
 use Rattle.jsp_model.specs.Limits.{IsWithinLimits, is_blocked, is_registration}
 use Rattle.jsp_model.specs.Quiet.{must_wait, is_quiet, are_quiet}
 use Rattle.jsp_model.specs.Settling.{places}
-use Rattle.jsp_laws.proofs.Lists.{Each, Has, each_weaker, each_by_all, each_has, each_numbers, found_has}
+use Rattle.jsp_laws.proofs.Lists.{Has, each_weaker, each_by_all, each_has, each_numbers, found_has}
 use Rattle.jsp_laws.proofs.Rising.{IsRising}
 use Rattle.jsp_quiet.specs.Quieting.{AllAskForSome}
 use Rattle.jsp_rows.proofs.LeastRows.{all_rising}

@@ -1,5 +1,5 @@
 -- The step that quiets a space further is legal, and there is one wherever the space isn't quiet.
-use Rattle.std.proofs.Common.{◌≡◌, refl, ap, sym, ◌∙◌, subst, ℕ, ◌<◌, ◌≤◌, List, [], ◌∷◌, take, length, Bool, true, false, not, ◌&&◌, ◌||◌, Option, Some, None, ◌==◌, arith}
+use Rattle.std.proofs.Common.{◌≡◌, refl, ap, ◌∙◌, ℕ, ◌<◌, ◌≤◌, List, take, length, Bool, true, false, not, ◌&&◌, ◌||◌, Some, None, ◌==◌, arith}
 use Rattle.std.specs.Prelude.{find}
 use Rattle.std.specs.List.{list_all}
 use Rattle.std.proofs.lemmas.Bool.{and_parts, and_from, eqb-true, eqb-false, not-true}
@@ -13,7 +13,7 @@ use Rattle.jsp_model.specs.Sight.{available}
 use Rattle.jsp_model.specs.Quiet.{must_wait, is_quiet}
 use Rattle.jsp_model.specs.Steps.{is_legal}
 use Rattle.jsp_model.specs.House.{is_unasked}
-use Rattle.jsp_laws.proofs.Lists.{Has, each_has, found_has}
+use Rattle.jsp_laws.proofs.Lists.{each_has, found_has}
 use Rattle.jsp_quiet.specs.Quieting.{quiets}
 use Rattle.jsp_quiet.proofs.Progress.{can_grant, can_empty, can_tell}
 use Rattle.jsp_rows.proofs.Places.{find_none, all_has, limits_rising, limits_some}

@@ -1,7 +1,6 @@
 -- A call leaves the state steady.
 use Rattle.std.proofs.Common.{◌≡◌, sym, subst, List, Result, Ok, Err}
-use Rattle.std.specs.Prelude.{IfOk, OnErr, ℕ, ◌≡◌, length}
-use Rattle.jsp_reply.specs.declared.reply.Reply.{Reply}
+use Rattle.std.specs.Prelude.{IfOk, OnErr, ◌≡◌}
 use Rattle.jsp_model.specs.declared.state.State.{State}
 use Rattle.jsp_model.specs.declared.step.Step.{Step}
 use Rattle.jsp_model.specs.House.{Makes}

@@ -10,14 +10,15 @@ use crate::finishing::finish;
 use crate::making::make;
 use crate::performing::{clear, perform};
 use jsp_audit::is_open;
-use jsp_model::{Image, Input, LAST_SESSION, Step, Stopped, Why};
+use jsp_core::LiveImage;
+use jsp_model::{Input, LAST_SESSION, Step, Stopped, Why};
 use jsp_types::Items;
 use std::alloc::Global;
 
 /// Finishes what an earlier call left, makes the input's own step, and then what follows from it.
 pub(crate) fn act(
     alloc: Global,
-    image: &mut Image,
+    image: &mut LiveImage,
     debt: &mut Vec<u64>,
     input: Input,
     bound: Option<u64>,
@@ -43,7 +44,7 @@ pub(crate) fn act(
 /// was touched stays owed.
 pub(crate) fn make_ready(
     alloc: Global,
-    image: &mut Image,
+    image: &mut LiveImage,
     debt: &mut Vec<u64>,
     input: &Input,
     bound: Option<u64>,
@@ -59,7 +60,7 @@ pub(crate) fn make_ready(
 
 /// Whether the input makes a step. What comes from a closed session is passed over, and so is the
 /// opening of a number that isn't above all earlier ones.
-fn accepts(image: &Image, input: &Input) -> bool
+fn accepts(image: &LiveImage, input: &Input) -> bool
     ensures { result ≡ takes image.now input.now }
 {
     let state = image.state();
@@ -105,7 +106,7 @@ fn step_of(alloc: Global, input: Input) -> Step
 /// opened one.
 fn open(
     alloc: Global,
-    image: &mut Image,
+    image: &mut LiveImage,
     debt: &mut Vec<u64>,
     session: u64,
     bound: Option<u64>,

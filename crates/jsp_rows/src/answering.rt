@@ -7,7 +7,8 @@ ghost use Rattle.jsp_rows.specs.Making.{KeepsLog};
 
 use crate::making::{enter, is_full, reserve_places};
 use jsp_audit::{hand_out, is_open, shut, waiting};
-use jsp_model::{Image, State, Step, Stopped, Why};
+use jsp_core::{Core, LiveImage};
+use jsp_model::{Step, Stopped, Why};
 use jsp_reply::Said;
 use jsp_types::NoMemory;
 use std::alloc::Global;
@@ -16,7 +17,7 @@ use std::alloc::Global;
 /// are none.
 pub(crate) fn answer(
     alloc: Global,
-    image: &mut Image,
+    image: &mut LiveImage,
     session: u64,
     most: u64,
     bound: Option<u64>,
@@ -43,7 +44,7 @@ pub(crate) fn answer(
 /// all.
 fn answer_some(
     alloc: Global,
-    image: &mut Image,
+    image: &mut LiveImage,
     session: u64,
     count: u64,
     bound: Option<u64>,
@@ -66,7 +67,7 @@ fn answer_some(
 /// The same where the log isn't full.
 fn answer_within(
     alloc: Global,
-    image: &mut Image,
+    image: &mut LiveImage,
     session: u64,
     count: u64,
     log: &mut Vec<Step>,
@@ -88,7 +89,7 @@ fn answer_within(
 }
 
 /// Closes a session, if it is open. Takes no memory: the log has room for the step.
-pub(crate) fn close(image: &mut Image, session: u64, log: &mut Vec<Step>)
+pub(crate) fn close(image: &mut LiveImage, session: u64, log: &mut Vec<Step>)
     requires { vec_len log.old < vec_capacity log.old }
     ensures steps { Makes image.old image.new log.old.items log.new.items (shuts image.old session) }
     ensures room { KeepsRoom image.old image.new (vec_capacity log.old - vec_len log.old) (vec_capacity log.new - vec_len log.new) }
@@ -100,16 +101,8 @@ pub(crate) fn close(image: &mut Image, session: u64, log: &mut Vec<Step>)
 }
 
 /// The least session above this number that has answers waiting.
-pub(crate) fn next_waiting(state: &State, after: u64) -> Option<u64>
+pub(crate) fn next_waiting(state: &Core, after: u64) -> Option<u64>
     ensures { result ≡ waits_next state.now after }
 {
-    match state
-        .outboxes
-        .as_slice()
-        .iter()
-        .find(|outbox| after < outbox.session)
-    {
-        None => None,
-        Some(outbox) => Some(outbox.session),
-    }
+    state.outboxes.next_after(after)
 }

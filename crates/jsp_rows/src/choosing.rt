@@ -7,7 +7,7 @@ ghost use Rattle.jsp_model.specs.Steps.{has_its_rows};
 ghost use Rattle.jsp_model.specs.declared.limits.TheConstants.{LAST_TIME};
 
 use jsp_audit::{choose, request_for_rows};
-use jsp_model::State;
+use jsp_core::Core;
 use jsp_reply::Refusal;
 use jsp_types::{Items, NoMemory};
 use jsp_wire::Ask;
@@ -17,7 +17,7 @@ use std::alloc::Global;
 /// and none where there is none, or where the request is refused or isn't for rows.
 pub(crate) fn choose_rows(
     alloc: Global,
-    state: &State,
+    state: &Core,
     session: u64,
     id: u64,
     ask: &Ask,
@@ -36,7 +36,7 @@ pub(crate) fn choose_rows(
 
 fn choose_first(
     alloc: Global,
-    state: &State,
+    state: &Core,
     session: u64,
     id: u64,
     ask: &Ask,

@@ -18,8 +18,9 @@ use crate::quieting::quieting_step;
 use crate::to_come::Coming;
 use crate::unquiet::first_unquiet_of;
 use jsp_audit::{due, touches};
+use jsp_core::{Core, LiveImage};
 use jsp_lease::Item;
-use jsp_model::{Image, State, Step, Why};
+use jsp_model::{Step, Why};
 use jsp_reply::Refusal;
 use jsp_types::NoMemory;
 use std::alloc::Global;
@@ -30,7 +31,7 @@ use std::alloc::Global;
 /// Where all this is so already, no step is made.
 pub(crate) fn finish<T: Coming>(
     alloc: Global,
-    image: &mut Image,
+    image: &mut LiveImage,
     debt: &mut Vec<u64>,
     to_come: Option<&T>,
     bound: Option<u64>,
@@ -51,7 +52,7 @@ pub(crate) fn finish<T: Coming>(
 /// Makes a step, and owes it to the spaces that it touches.
 pub(crate) fn make_owing(
     alloc: Global,
-    image: &mut Image,
+    image: &mut LiveImage,
     debt: &mut Vec<u64>,
     step: Step,
     refused: Option<Refusal>,
@@ -78,7 +79,7 @@ pub(crate) fn make_owing(
 /// touches.
 fn next_step<T: Coming>(
     alloc: Global,
-    image: &Image,
+    image: &LiveImage,
     debt: &[u64],
     to_come: Option<&T>,
 ) -> Result<Option<Step>, NoMemory>
@@ -101,7 +102,7 @@ fn next_step<T: Coming>(
 }
 
 /// What is due, or a step that quiets a space that this touches.
-fn ending(alloc: Global, image: &Image, item: Item) -> Result<Step, NoMemory>
+fn ending(alloc: Global, image: &LiveImage, item: Item) -> Result<Step, NoMemory>
     requires { due_now image.now ≡ Some item }
     ensures legal { IfOk result (λ s. IsTrue (is_legal image.now s)) }
     ensures unasked { IfOk result (λ s. IsTrue (is_unasked s)) }
@@ -116,7 +117,7 @@ fn ending(alloc: Global, image: &Image, item: Item) -> Result<Step, NoMemory>
 /// A step that quiets a space that what is to come touches.
 fn quieting_for<T: Coming>(
     alloc: Global,
-    image: &Image,
+    image: &LiveImage,
     coming: &T,
 ) -> Result<Option<Step>, NoMemory>
     ensures legal { IfOk result (λ o. IfSome o (λ s. IsTrue (is_legal image.now s))) }
@@ -129,7 +130,7 @@ fn quieting_for<T: Coming>(
 }
 
 /// A step that quiets one of these spaces, the first one in the configured order that isn't quiet.
-fn quieting_of(alloc: Global, state: &State, spaces: &[u64]) -> Result<Option<Step>, NoMemory>
+fn quieting_of(alloc: Global, state: &Core, spaces: &[u64]) -> Result<Option<Step>, NoMemory>
     requires { IsWithinLimits state.now }
     ensures legal { IfOk result (λ o. IfSome o (λ s. IsTrue (is_legal state.now s))) }
     ensures quiets { IfOk result (λ o. IfSome o (λ s. IsTrue (quiets s))) }

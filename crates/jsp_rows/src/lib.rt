@@ -1,6 +1,6 @@
-//! A house that keeps plain lists and scans them.
+//! A house, whose rows are looked at one by one.
 //!
-//! `RowsHouse` keeps the state of the abstract spaces as an `Image`. It chooses steps and makes them
+//! `RowsHouse` keeps the state of the abstract spaces as a `LiveImage`. It chooses steps and makes them
 //! through jsp_audit, so each of its calls is a legal run: that is the contract `House` of jsp_model,
 //! which it meets. A call first finishes what an earlier one left and quiets the spaces that its own
 //! step touches, then makes that step, and then all that follows from it by itself (`finishing.rt`).

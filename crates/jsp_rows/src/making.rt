@@ -6,7 +6,8 @@ ghost use Rattle.jsp_audit.specs.Judging.{refusal_in};
 ghost use Rattle.jsp_rows.specs.Making.{KeepsLog};
 
 use jsp_audit::apply_judged;
-use jsp_model::{Image, State, Step, Why};
+use jsp_core::{Core, LiveImage};
+use jsp_model::{Step, Why};
 use jsp_reply::Refusal;
 use jsp_types::NoMemory;
 use std::alloc::Global;
@@ -14,7 +15,7 @@ use std::alloc::Global;
 /// Makes a legal step and enters it in the log, whole or not at all.
 pub(crate) fn make(
     alloc: Global,
-    image: &mut Image,
+    image: &mut LiveImage,
     step: Step,
     refused: Option<Refusal>,
     bound: Option<u64>,
@@ -48,7 +49,7 @@ pub(crate) fn is_full(log: &Vec<Step>, bound: Option<u64>) -> bool
 /// The same where the log isn't full.
 fn make_within(
     alloc: Global,
-    image: &mut Image,
+    image: &mut LiveImage,
     step: Step,
     refused: Option<Refusal>,
     log: &mut Vec<Step>,
@@ -71,7 +72,7 @@ fn make_within(
 
 /// Makes room in the log for a step, and for a closing of each session that is open after it: of those
 /// that are open now, and of one that it may open.
-pub(crate) fn reserve_places(state: &State, log: &mut Vec<Step>) -> Result<(), NoMemory>
+pub(crate) fn reserve_places(state: &Core, log: &mut Vec<Step>) -> Result<(), NoMemory>
     ensures items { log.new.items ≡ log.old.items }
     ensures len { vec_len log.new ≡ vec_len log.old }
     ensures capacity { vec_capacity log.old ≤ vec_capacity log.new }

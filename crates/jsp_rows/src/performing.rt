@@ -12,7 +12,8 @@ ghost use Rattle.jsp_rows.specs.Owing.{IsDone};
 use crate::choosing::choose_rows;
 use crate::finishing::{finish, make_owing};
 use jsp_audit::refusal;
-use jsp_model::{Image, State, Step, Stopped, Why};
+use jsp_core::{Core, LiveImage};
+use jsp_model::{Step, Stopped, Why};
 use jsp_reply::Refusal;
 use jsp_types::NoMemory;
 use std::alloc::Global;
@@ -27,7 +28,7 @@ struct Own {
 /// Quiets what the step touches, makes it, and then what follows from it by itself.
 pub(crate) fn perform(
     alloc: Global,
-    image: &mut Image,
+    image: &mut LiveImage,
     debt: &mut Vec<u64>,
     step: Step,
     bound: Option<u64>,
@@ -52,7 +53,7 @@ pub(crate) fn perform(
 /// Makes the step, with the rows that it gives.
 fn make_own(
     alloc: Global,
-    image: &mut Image,
+    image: &mut LiveImage,
     debt: &mut Vec<u64>,
     step: Step,
     bound: Option<u64>,
@@ -71,7 +72,7 @@ fn make_own(
 }
 
 /// The step, and the rows that its request is given.
-fn with_rows(alloc: Global, state: &State, step: Step) -> Result<Own, NoMemory>
+fn with_rows(alloc: Global, state: &Core, step: Step) -> Result<Own, NoMemory>
     requires { IsWithinLimits state.now }
     ensures same { IfOk result (λ own. bare own.step ≡ bare step) }
     ensures rows { IfOk result (λ own. has_rows state.now own.step ≡ true) }
@@ -98,7 +99,7 @@ fn with_rows(alloc: Global, state: &State, step: Step) -> Result<Own, NoMemory>
 /// Makes what is owed and due; then nothing is owed any more.
 pub(crate) fn clear(
     alloc: Global,
-    image: &mut Image,
+    image: &mut LiveImage,
     debt: &mut Vec<u64>,
     done: bool,
     bound: Option<u64>,

@@ -7,7 +7,8 @@ ghost use Rattle.jsp_model.specs.Limits.{IsWithinLimits};
 ghost use Rattle.jsp_quiet.specs.Quieting.{quiets};
 
 use jsp_audit::choose;
-use jsp_model::{Blocked, Registration, State, Step};
+use jsp_core::Core;
+use jsp_model::{Blocked, Registration, Step};
 use jsp_state::{has_none, must_wait};
 use jsp_types::NoMemory;
 use std::alloc::Global;
@@ -18,7 +19,7 @@ use std::alloc::Global;
 /// own.
 pub(crate) fn quieting_step(
     alloc: Global,
-    state: &State,
+    state: &Core,
     space: u64,
 ) -> Result<Option<Step>, NoMemory>
     requires { IsWithinLimits state.now }
@@ -47,7 +48,7 @@ pub(crate) fn quieting_step(
 }
 
 /// The first request of the space that can be given a row.
-fn first_grantable<'a>(state: &'a State, space: u64) -> Option<&'a Blocked>
+fn first_grantable<'a>(state: &'a Core, space: u64) -> Option<&'a Blocked>
     ensures { option_copied result ≡ find (λ b. b.space == space && not (length (available state.now b) == 0)) state.now.blocked }
 {
     state
@@ -58,7 +59,7 @@ fn first_grantable<'a>(state: &'a State, space: u64) -> Option<&'a Blocked>
 }
 
 /// The first request of the space that has to wait no longer.
-fn first_without_hope<'a>(state: &'a State, space: u64) -> Option<&'a Blocked>
+fn first_without_hope<'a>(state: &'a Core, space: u64) -> Option<&'a Blocked>
     ensures { option_copied result ≡ find (λ b. b.space == space && not (waits state.now b)) state.now.blocked }
 {
     state
@@ -69,7 +70,7 @@ fn first_without_hope<'a>(state: &'a State, space: u64) -> Option<&'a Blocked>
 }
 
 /// The first registration of the space that is owed an event.
-fn first_owed<'a>(state: &'a State, space: u64) -> Option<&'a Registration>
+fn first_owed<'a>(state: &'a Core, space: u64) -> Option<&'a Registration>
     ensures { option_copied result ≡ find (λ r. r.space == space && not (length r.owed == 0)) state.now.registrations }
 {
     state

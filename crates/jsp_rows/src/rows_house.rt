@@ -9,16 +9,17 @@ use crate::answering::{answer, close, next_waiting};
 use crate::performing::clear;
 use crate::settling::{all_quiet, settle, turn};
 use jsp_audit::{empty_image, is_open};
+use jsp_core::{Keeping, LiveImage};
 use jsp_model::{Config, House, Image, Input, Settled, Step, Stopped, Why};
 use jsp_reply::Said;
 use jsp_types::NoMemory;
 use std::alloc::Global;
 
-/// A house that keeps plain lists and scans them.
+/// A house whose rows are looked at one by one.
 #[derive(Drop)]
 pub struct RowsHouse {
     alloc: Global,
-    image: Image,
+    image: LiveImage,
     /// The spaces that stopped calls left to be made quiet, each once.
     debt: Vec<u64>,
     /// The length up to which calls may fill the log.
@@ -33,7 +34,16 @@ impl RowsHouse {
         ensures debt { IfOk result (λ h. h.debt.items ≡ []) }
         ensures bound { IfOk result (λ h. h.bound ≡ None) }
     {
-        let image = empty_image(alloc, config)?;
+        RowsHouse::keeping(alloc, config, Keeping::Scanned)
+    }
+
+    /// The same, with its rows kept so. For a house that finds rows otherwise.
+    pub fn keeping(alloc: Global, config: &Config, keeping: Keeping) -> Result<RowsHouse, NoMemory>
+        ensures view { IfOk result (λ h. h.image ≡ empty config.now) }
+        ensures debt { IfOk result (λ h. h.debt.items ≡ []) }
+        ensures bound { IfOk result (λ h. h.bound ≡ None) }
+    {
+        let image = LiveImage::of(alloc, empty_image(alloc, config)?, keeping)?;
         Ok(RowsHouse {
             alloc,
             image,
@@ -125,6 +135,6 @@ impl House for RowsHouse {
     }
 
     fn image(&self) -> Result<Image, NoMemory> {
-        self.image.copy(self.alloc)
+        self.image.to_image(self.alloc)
     }
 }

@@ -10,7 +10,8 @@ ghost use Rattle.jsp_rows.specs.Making.{KeepsLog};
 use crate::owing::owe;
 use crate::performing::{clear, perform};
 use crate::unquiet::first_unquiet;
-use jsp_model::{Image, Joined, Settled, State, Step, Stopped, Vote, Why};
+use jsp_core::{Core, LiveImage};
+use jsp_model::{Joined, Settled, Step, Stopped, Vote, Why};
 use jsp_state::transaction_of;
 use std::alloc::Global;
 use std::slice::from_ref;
@@ -19,7 +20,7 @@ use std::slice::from_ref;
 /// votes it makes the first space that isn't quiet quiet, together with what an earlier call left.
 pub(crate) fn settle(
     alloc: Global,
-    image: &mut Image,
+    image: &mut LiveImage,
     debt: &mut Vec<u64>,
     bound: Option<u64>,
     log: &mut Vec<Step>,
@@ -42,7 +43,7 @@ pub(crate) fn settle(
 }
 
 /// What the next settle turn answers, if a transaction votes.
-pub(crate) fn turn(state: &State) -> Option<Settled>
+pub(crate) fn turn(state: &Core) -> Option<Settled>
     ensures { result ≡ answers_next state.now }
 {
     match settle_step(state) {
@@ -52,7 +53,7 @@ pub(crate) fn turn(state: &State) -> Option<Settled>
 }
 
 /// Whether every space is quiet.
-pub(crate) fn all_quiet(state: &State) -> bool
+pub(crate) fn all_quiet(state: &Core) -> bool
     ensures { result ≡ is_none (first_of_all state.now) }
 {
     first_unquiet(state).is_none()
@@ -69,7 +70,7 @@ fn answer_of(step: &Step) -> Settled
 
 fn quiet_next(
     alloc: Global,
-    image: &mut Image,
+    image: &mut LiveImage,
     debt: &mut Vec<u64>,
     bound: Option<u64>,
     log: &mut Vec<Step>,
@@ -92,7 +93,7 @@ fn quiet_next(
 /// Makes this space quiet, and what is owed.
 fn quiet_space(
     alloc: Global,
-    image: &mut Image,
+    image: &mut LiveImage,
     debt: &mut Vec<u64>,
     space: u64,
     bound: Option<u64>,
@@ -117,7 +118,7 @@ fn quiet_space(
 }
 
 /// The step of a settle turn, if a transaction votes.
-fn settle_step(state: &State) -> Option<Step>
+fn settle_step(state: &Core) -> Option<Step>
     ensures { result ≡ next_turn state.now }
 {
     match state.commits.as_slice().first() {
@@ -127,7 +128,7 @@ fn settle_step(state: &State) -> Option<Step>
 }
 
 /// An abort as soon as a vote is for it, else the next vote, and else a commit.
-fn turn_of(state: &State, transaction: u64) -> Step
+fn turn_of(state: &Core, transaction: u64) -> Step
     ensures { result ≡ turn state.now transaction }
 {
     match transaction_of(state, transaction) {

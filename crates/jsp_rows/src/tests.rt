@@ -201,7 +201,10 @@ fn is_legal_after(rt: &HostRuntime, steps: &[Step], count: usize) -> Result<bool
         return Err(Fail::new("fewer steps"));
     };
     match replay(rt.alloc(), &config, begun) {
-        Ok(replayed) => Ok(replay_from(rt.alloc(), &replayed.image, last).is_ok()),
+        Ok(replayed) => {
+            let base = replayed.image.to_image(rt.alloc())?;
+            Ok(replay_from(rt.alloc(), &base, last).is_ok())
+        }
         Err(_) => Err(Fail::new("no run")),
     }
 }

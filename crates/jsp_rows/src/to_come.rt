@@ -5,7 +5,8 @@ ghost use Rattle.jsp_model.specs.House.{step_of};
 ghost use Rattle.jsp_model.specs.Touches.{touches as touched_by};
 
 use jsp_audit::{ask_touches, touches};
-use jsp_model::{Image, Input, Step};
+use jsp_core::LiveImage;
+use jsp_model::{Input, Step};
 use jsp_types::{Items, NoMemory};
 use std::alloc::Global;
 
@@ -15,14 +16,14 @@ pub(crate) trait Coming {
     ghost step: { Self → Step };
 
     /// The spaces that its step touches.
-    fn touches(&self, alloc: Global, image: &Image) -> Result<Items<u64>, NoMemory>
+    fn touches(&self, alloc: Global, image: &LiveImage) -> Result<Items<u64>, NoMemory>
         ensures { IfOk result (λ v. v ≡ touched_by image.now (step self.now)) };
 }
 
 impl Coming for Step {
     ghost step = { λ s. s };
 
-    fn touches(&self, alloc: Global, image: &Image) -> Result<Items<u64>, NoMemory> {
+    fn touches(&self, alloc: Global, image: &LiveImage) -> Result<Items<u64>, NoMemory> {
         touches(alloc, image, self)
     }
 }
@@ -31,7 +32,7 @@ impl Coming for Input {
     ghost step = { step_of };
 
     #[tactic(auto, unfolding(jsp_model::specs::Touches::touches))]
-    fn touches(&self, alloc: Global, image: &Image) -> Result<Items<u64>, NoMemory> {
+    fn touches(&self, alloc: Global, image: &LiveImage) -> Result<Items<u64>, NoMemory> {
         match self {
             Input::Ask { asked, .. } => {
                 let spaces = ask_touches(alloc, image.state(), asked.ask())?;

@@ -12,7 +12,8 @@ use crate::lines::read_acts;
 use crate::print::printed;
 use crate::writing::{tell, write_bytes};
 use jsp_drive::drive;
-use jsp_rows::{Config, RowsHouse};
+use jsp_hall::Hall;
+use jsp_rows::Config;
 use std::alloc::Global;
 use std::io::{ErrorKind, Read, Write};
 use std::process::ExitCode;
@@ -116,7 +117,8 @@ pub(crate) fn answers(
     ensures fault { IfErr result (FailsBy (lines_of text.now)) }
 {
     let acts = read_acts(alloc, text)?;
-    let house = RowsHouse::new(alloc, config)?;
+    // Nobody else chooses what a script writes, so the seed may be any.
+    let house = Hall::new(alloc, config, 0)?;
     let driven = drive(alloc, house, config, acts.as_slice())?;
     if audits {
         audit(

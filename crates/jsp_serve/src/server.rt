@@ -4,9 +4,11 @@ ghost use Rattle.jsp_closing.specs.Closing.{Closes};
 
 use crate::connections::Connections;
 use jsp_floor::{Clock, Closed, Gate, RunFault, run_house};
-use jsp_rows::{Config, RowsHouse};
+use jsp_hall::Hall;
+use jsp_rows::Config;
 use std::alloc::Global;
 use std::net::TcpListener;
+use std::random::RandomSource;
 use std::sync::Wait;
 use std::thread::Threads;
 use std::time::{Clock as SystemClock, Instant};
@@ -43,7 +45,7 @@ impl<T: SystemClock> Clock for Uptime<'_, T> {
 /// ends when they have ended. An era of the history holds `era` steps, from 1 to 16,777,216: what the
 /// history takes of memory, a step being some 300 bytes where requests
 /// are short.
-pub fn serve<T: Threads + Wait + SystemClock + Sync>(
+pub fn serve<T: Threads + Wait + SystemClock + RandomSource + Sync>(
     rt: &T,
     alloc: Global,
     listener: TcpListener,
@@ -54,7 +56,7 @@ pub fn serve<T: Threads + Wait + SystemClock + Sync>(
     requires { (1 ≤ era) × (era ≤ 16777216) }
     ensures { IfOk result (Closes config.now) }
 {
-    let Ok(house) = RowsHouse::new(alloc, config) else {
+    let Ok(house) = Hall::new(alloc, config, seed_of(rt)) else {
         return Err(RunFault::NoMemory);
     };
     let clock = Uptime {
@@ -63,4 +65,13 @@ pub fn serve<T: Threads + Wait + SystemClock + Sync>(
     };
     let connections = Connections::new(listener, lines);
     run_house(rt, alloc, house, config, era, connections, &Open, &clock)
+}
+
+/// A number that clients can't know, or 0 where the system gives none.
+fn seed_of(rt: &impl RandomSource) -> u64 {
+    let mut bytes = [0; 8];
+    match rt.fill_bytes(&mut bytes) {
+        Ok(()) => u64::from_le_bytes(bytes),
+        Err(_) => 0,
+    }
 }

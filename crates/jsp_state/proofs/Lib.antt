@@ -1,11 +1,4 @@
-pub mod Available
-pub mod Choosing
 pub mod Fitting
-pub mod Handing
-pub mod Keeping
-pub mod Places
-pub mod Posting
 pub mod Scanning
 pub mod Soonest
 pub mod Testing
-pub mod Unique

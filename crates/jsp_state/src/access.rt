@@ -8,12 +8,12 @@ ghost use Rattle.jsp_model.specs.Refusals.{space_tests};
 use crate::numbers::caller_of;
 use crate::spaces::space_named;
 use crate::transactions::{is_living, is_voting, joined_otherwise};
-use jsp_model::State;
+use jsp_core::Core;
 use jsp_reply::Refusal;
 
 /// Why no operation can be made at the space under the transaction, if none can: there is no such
 /// space, no such transaction, its commit was asked, or the space was reset since it joined it.
-pub fn space_refusal(state: &State, space: &str, txn: Option<i64>) -> Option<Refusal>
+pub fn space_refusal(state: &Core, space: &str, txn: Option<i64>) -> Option<Refusal>
     ensures { result ≡ first_that (space_tests state.now space.now txn) }
 {
     let place = space_named(state, space);
@@ -33,7 +33,7 @@ pub fn space_refusal(state: &State, space: &str, txn: Option<i64>) -> Option<Ref
     None
 }
 
-fn is_gone(state: &State, caller: Option<u64>) -> bool
+fn is_gone(state: &Core, caller: Option<u64>) -> bool
     ensures { result ≡ option_map_or (λ x. not (lives state.now x)) caller false }
 {
     match caller {
@@ -42,7 +42,7 @@ fn is_gone(state: &State, caller: Option<u64>) -> bool
     }
 }
 
-fn has_asked(state: &State, caller: Option<u64>) -> bool
+fn has_asked(state: &Core, caller: Option<u64>) -> bool
     ensures { result ≡ option_map_or (votes state.now) caller false }
 {
     match caller {

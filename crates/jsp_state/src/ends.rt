@@ -3,15 +3,18 @@ ghost use Rattle.std.specs.Prelude.{◌≡◌, nat_le, map, filter, not, fold, r
 ghost use Rattle.jsp_lease.specs.Due.{over_by};
 ghost use Rattle.jsp_model.specs.Lookup.{is_voting as votes};
 ghost use Rattle.jsp_model.specs.Due.{due as first_due};
-ghost use Rattle.jsp_state.specs.Ends.{row_end, registration_end, transaction_end, blocked_end, set_end, earlier as earlier_of};
+ghost use Rattle.jsp_sight.specs.Rows.{earlier as earlier_of};
+ghost use Rattle.jsp_lease.specs.Tournament.{earlier as soonest_of};
+ghost use Rattle.jsp_state.specs.Ends.{registration_end, transaction_end, blocked_end, set_end};
 
 use crate::transactions::is_voting;
-use jsp_lease::is_before;
-use jsp_model::{Blocked, Item, MatchSet, Rank, Registration, Row, State, Transaction};
+use jsp_core::Core;
+use jsp_model::{Blocked, Item, MatchSet, Rank, Registration, Transaction};
+use jsp_sight::earlier;
 
 /// The least due item, by end, rank and number: its end has come (the order is this profile's own).
 /// The items are gone through from the last to the first, and the earlier one is kept.
-pub fn due(state: &State) -> Option<Item>
+pub fn due(state: &Core) -> Option<Item>
     ensures { result ≡ first_due state.now }
 {
     let time = state.time;
@@ -19,21 +22,37 @@ pub fn due(state: &State) -> Option<Item>
     let first = first_blocked(state.blocked.as_slice(), time, first);
     let first = first_transaction(state, time, first);
     let first = first_registration(state.registrations.as_slice(), time, first);
-    first_row(state.rows.as_slice(), time, first)
+    soonest(state.rows.due(time), first)
+}
+
+fn kept(other: Option<Item>, item: Item) -> Option<Item>
+    ensures { result ≡ earlier_of other item }
+{
+    earlier(other, item)
+}
+
+/// The first of two.
+fn soonest(one: Option<Item>, other: Option<Item>) -> Option<Item>
+    ensures { result ≡ soonest_of one other }
+{
+    match (one, other) {
+        (Some(one), other) => earlier(other, one),
+        (None, other) => other,
+    }
 }
 
 fn first_set(sets: &[MatchSet], time: u64, first: Option<Item>) -> Option<Item>
     ensures { result ≡ fold earlier_of first (map set_end (filter (λ x. nat_le x.end time) (reverse sets.now))) }
 {
     let over = sets.iter().rev().filter(|x| x.end <= time);
-    over.map(set_item).fold(first, earlier)
+    over.map(set_item).fold(first, kept)
 }
 
 fn first_blocked(blocked: &[Blocked], time: u64, first: Option<Item>) -> Option<Item>
     ensures { result ≡ fold earlier_of first (map blocked_end (filter (λ x. nat_le x.end time) (reverse blocked.now))) }
 {
     let over = blocked.iter().rev().filter(|x| x.end <= time);
-    over.map(blocked_item).fold(first, earlier)
+    over.map(blocked_item).fold(first, kept)
 }
 
 fn first_registration(
@@ -44,18 +63,11 @@ fn first_registration(
     ensures { result ≡ fold earlier_of first (map registration_end (filter (λ x. nat_le x.end time) (reverse registrations.now))) }
 {
     let over = registrations.iter().rev().filter(|x| x.end <= time);
-    over.map(registration_item).fold(first, earlier)
-}
-
-fn first_row(rows: &[Row], time: u64, first: Option<Item>) -> Option<Item>
-    ensures { result ≡ fold earlier_of first (map row_end (filter (λ x. nat_le x.end time) (reverse rows.now))) }
-{
-    let over = rows.iter().rev().filter(|x| x.end <= time);
-    over.map(row_item).fold(first, earlier)
+    over.map(registration_item).fold(first, kept)
 }
 
 /// The end of a voting transaction doesn't count.
-fn first_transaction(state: &State, time: u64, first: Option<Item>) -> Option<Item>
+fn first_transaction(state: &Core, time: u64, first: Option<Item>) -> Option<Item>
     ensures { result ≡ fold earlier_of first (over_by time (map transaction_end (filter (λ t. not (votes state.now t.number)) (reverse state.now.transactions)))) }
 {
     let transactions = state.transactions.as_slice().iter().rev();
@@ -63,26 +75,7 @@ fn first_transaction(state: &State, time: u64, first: Option<Item>) -> Option<It
     active
         .map(transaction_item)
         .filter(|i| i.end <= time)
-        .fold(first, earlier)
-}
-
-fn earlier(other: Option<Item>, item: Item) -> Option<Item>
-    ensures { result ≡ earlier_of other item }
-{
-    match other {
-        None => Some(item),
-        Some(other) => Some(if is_before(other, item) { other } else { item }),
-    }
-}
-
-fn row_item(row: &Row) -> Item
-    ensures { result ≡ row_end row.now }
-{
-    Item {
-        end: row.end,
-        rank: Rank::Entry,
-        number: row.number,
-    }
+        .fold(first, kept)
 }
 
 fn registration_item(registration: &Registration) -> Item

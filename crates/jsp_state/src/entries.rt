@@ -7,7 +7,7 @@ ghost use Rattle.jsp_types.specs.Matching.{is_unknown as lacks, is_bad as breaks
 ghost use Rattle.jsp_model.specs.Refusals.{entry_tests, template_tests};
 ghost use Rattle.jsp_state.specs.Fitting.{AllFit};
 
-use jsp_model::State;
+use jsp_core::Core;
 use jsp_reply::Refusal;
 use jsp_types::{
     Classes, Entry, EntryError, Items, NoMemory, Raw, Template, check_entry, check_template,
@@ -17,7 +17,7 @@ use std::alloc::Global;
 
 /// Why these entries can't be written, if they can't: the class of one isn't declared, or else one
 /// breaks a rule of its class.
-pub fn entries_refusal(state: &State, raws: &[Raw]) -> Option<Refusal>
+pub fn entries_refusal(state: &Core, raws: &[Raw]) -> Option<Refusal>
     ensures { result ≡ first_that (entry_tests state.now raws.now) }
 {
     if any_lacks_class(&state.classes, raws) {
@@ -54,7 +54,7 @@ fn has_fault(classes: &Classes, raw: &Raw) -> bool
 }
 
 /// Why these templates aren't any, if so, as for entries. The null template is one.
-pub fn templates_refusal(state: &State, templates: &[Option<Raw>]) -> Option<Refusal>
+pub fn templates_refusal(state: &Core, templates: &[Option<Raw>]) -> Option<Refusal>
     ensures { result ≡ first_that (template_tests state.now templates.now) }
 {
     if any_template_lacks_class(&state.classes, templates) {

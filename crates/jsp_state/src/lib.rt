@@ -3,9 +3,8 @@
 //! All is found by scans of the state's lists. What only looks takes no memory, so its result is not
 //! a `Result`. Each call's contract is a definition of jsp_model: what a caller may see (`Sight`),
 //! whether a space owes anything (`Quiet`), what is due (`Due`), what a number names (`Lookup`).
-//! `outboxes` posts what is said, whole or not at all, and takes it back where the step that said it
-//! can't be made. A house that has indexes of its own doesn't need this crate; one of plain lists and
-//! the audit of histories stand on it.
+//! What is said is posted by jsp_outbox; here it is handed out. A house that has indexes of its own
+//! doesn't need this crate; one of plain lists and the audit of histories stand on it.
 #![tactic(auto)]
 
 mod access;
@@ -20,21 +19,20 @@ mod rows;
 mod sessions;
 mod sight;
 mod spaces;
-#[cfg(test)]
-mod tests;
 mod transactions;
 
 pub use access::space_refusal;
-pub use choices::{choose, count_available, first_available, is_choice};
+pub use choices::{choose, is_choice};
 pub use ends::due;
 pub use entries::{entries_refusal, entry_of, template_of, templates_of, templates_refusal};
-pub use numbers::{caller_of, contains, is_caller, is_used_up, named};
-pub use outboxes::{Posted, hand_out, post, post_all, take_all_back, take_back, waiting};
+pub use jsp_sight::{contains, is_caller, is_if, is_readable, is_take};
+pub use numbers::{caller_of, is_used_up, named};
+pub use outboxes::{hand_out, waiting};
 pub use quiet::is_quiet;
 pub use ranks::rank_of;
 pub use rows::{entries_of, rows_in};
 pub use sessions::{close, is_open, is_waiting, open, set_version, waits_for_many};
-pub use sight::{has_conflict, has_none, is_if, is_readable, is_take, must_wait};
+pub use sight::{has_conflict, has_none, must_wait};
 pub use spaces::{crash_count, names_of, place_of, space_named};
 pub use transactions::{
     commit_of, is_living, is_voting, joined_at, joined_otherwise, place_of_transaction,

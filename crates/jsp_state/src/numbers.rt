@@ -1,17 +1,11 @@
 //! Numbers as requests and callers give them.
 ghost use Rattle.std.specs.Prelude.{◌≡◌, ◌≤◌};
-ghost use Rattle.jsp_model.specs.Lookup.{contains as has, is_caller as calls, named as number_named};
+ghost use Rattle.jsp_model.specs.Lookup.{named as number_named};
 ghost use Rattle.jsp_model.specs.Requests.{caller_of as transaction_named};
 ghost use Rattle.jsp_model.specs.Refusals.{is_used_up as lacks_numbers};
 
-use jsp_model::{LAST_NUMBER, State};
-
-/// Whether the number is among these.
-pub fn contains(numbers: &[u64], number: u64) -> bool
-    ensures { result ≡ has numbers.now number }
-{
-    numbers.iter().any(|n| *n == number)
-}
+use jsp_core::Core;
+use jsp_model::LAST_NUMBER;
 
 /// The number that a request gives. Nothing has the number 0.
 pub fn named(number: i64) -> u64
@@ -33,15 +27,8 @@ pub fn caller_of(txn: Option<i64>) -> Option<u64>
     }
 }
 
-/// Whether the caller is this transaction.
-pub fn is_caller(caller: Option<u64>, transaction: u64) -> bool
-    ensures { result ≡ calls caller transaction }
-{
-    caller == Some(transaction)
-}
-
 /// Whether so many numbers more can't be drawn.
-pub fn is_used_up(state: &State, count: u64) -> bool
+pub fn is_used_up(state: &Core, count: u64) -> bool
     requires { count ≤ 64 }
     ensures { result ≡ lacks_numbers state.now count }
 {

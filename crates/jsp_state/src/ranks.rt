@@ -4,10 +4,11 @@ ghost use Rattle.std.specs.List.{list_any};
 ghost use Rattle.jsp_model.specs.Lookup.{rank_of as rank_of_number};
 
 use crate::transactions::is_living;
-use jsp_model::{Rank, State};
+use jsp_core::Core;
+use jsp_model::Rank;
 
 /// What the number names that has a lease: a row, a registration, a transaction or a match set.
-pub fn rank_of(state: &State, number: u64) -> Option<Rank>
+pub fn rank_of(state: &Core, number: u64) -> Option<Rank>
     ensures { result ≡ rank_of_number state.now number }
 {
     if is_row(state, number) {
@@ -25,13 +26,13 @@ pub fn rank_of(state: &State, number: u64) -> Option<Rank>
     None
 }
 
-fn is_row(state: &State, number: u64) -> bool
+fn is_row(state: &Core, number: u64) -> bool
     ensures { result ≡ list_any (λ r. r.number == number) state.now.rows }
 {
-    state.rows.as_slice().iter().any(|r| r.number == number)
+    state.rows.has(number)
 }
 
-fn is_registration(state: &State, number: u64) -> bool
+fn is_registration(state: &Core, number: u64) -> bool
     ensures { result ≡ list_any (λ r. r.number == number) state.now.registrations }
 {
     state
@@ -41,7 +42,7 @@ fn is_registration(state: &State, number: u64) -> bool
         .any(|r| r.number == number)
 }
 
-fn is_set(state: &State, number: u64) -> bool
+fn is_set(state: &Core, number: u64) -> bool
     ensures { result ≡ list_any (λ m. m.number == number) state.now.sets }
 {
     state.sets.as_slice().iter().any(|m| m.number == number)

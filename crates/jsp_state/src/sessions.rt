@@ -6,12 +6,13 @@ ghost use Rattle.jsp_model.specs.Changes.{open_session, close as closed, set_ver
 ghost use Rattle.jsp_state.specs.Versions.{versioned};
 ghost use Rattle.jsp_model.specs.declared.limits.TheConstants.{MOST_WAITING};
 
-use jsp_model::{Blocked, Commit, MOST_WAITING, MatchSet, Registration, Session, State};
+use jsp_core::Core;
+use jsp_model::{Blocked, Commit, MOST_WAITING, MatchSet, Registration, Session};
 use jsp_types::NoMemory;
 use jsp_wire::Version;
 
 /// Whether the session is open.
-pub fn is_open(state: &State, session: u64) -> bool
+pub fn is_open(state: &Core, session: u64) -> bool
     ensures { result ≡ has_open state.now session }
 {
     state
@@ -22,7 +23,7 @@ pub fn is_open(state: &State, session: u64) -> bool
 }
 
 /// Whether the session's request of this id waits.
-pub fn is_waiting(state: &State, session: u64, id: u64) -> bool
+pub fn is_waiting(state: &Core, session: u64, id: u64) -> bool
     ensures { result ≡ waits state.now session id }
 {
     is_blocked(state.blocked.as_slice(), session, id)
@@ -42,7 +43,7 @@ fn is_asked(commits: &[Commit], session: u64, id: u64) -> bool
 }
 
 /// Whether as many of the session's requests wait as may.
-pub fn waits_for_many(state: &State, session: u64) -> bool
+pub fn waits_for_many(state: &Core, session: u64) -> bool
     ensures { result ≡ nat_le MOST_WAITING (waiting_count state.now session) }
 {
     let blocked = count_blocked(state.blocked.as_slice(), session);
@@ -63,7 +64,7 @@ fn count_asked(commits: &[Commit], session: u64) -> usize
 }
 
 /// Opens a session, whole or not at all. Its line begins in version 1.
-pub fn open(state: &mut State, session: u64) -> Result<(), NoMemory>
+pub fn open(state: &mut Core, session: u64) -> Result<(), NoMemory>
     ensures ok { OnOk result (state.new ≡ open_session state.old session) }
     ensures err { OnErr result (state.new ≡ state.old) }
 {
@@ -77,7 +78,7 @@ pub fn open(state: &mut State, session: u64) -> Result<(), NoMemory>
 
 /// Closes a session: its blocked requests, registrations and match sets go without answer. Rows,
 /// transactions and asked commits stay (this profile's own).
-pub fn close(state: &mut State, session: u64)
+pub fn close(state: &mut Core, session: u64)
     ensures { state.new ≡ closed state.old session }
 {
     let sessions = &mut state.sessions;
@@ -115,7 +116,7 @@ fn drop_sets(sets: &mut Vec<MatchSet>, session: u64)
 }
 
 /// The session's line has this version from now on (this profile's own).
-pub fn set_version(state: &mut State, session: u64, version: Version)
+pub fn set_version(state: &mut Core, session: u64, version: Version)
     ensures { state.new ≡ with_version state.old session version }
 {
     let sessions = &mut state.sessions;

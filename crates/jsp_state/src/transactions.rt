@@ -4,10 +4,11 @@ ghost use Rattle.jsp_model.specs.Lookup.{transaction_of as transaction_named, jo
 ghost use Rattle.jsp_model.specs.Refusals.{joined_otherwise as crashed_since};
 
 use crate::spaces::crash_count;
-use jsp_model::{Commit, Joined, State, Transaction};
+use jsp_core::Core;
+use jsp_model::{Commit, Joined, Transaction};
 
 /// The transaction of this number, if there is one.
-pub fn transaction_of(state: &State, x: u64) -> Option<&Transaction>
+pub fn transaction_of(state: &Core, x: u64) -> Option<&Transaction>
     ensures { option_copied result ≡ transaction_named state.now x }
 {
     find_transaction(state.transactions.as_slice(), x)
@@ -27,7 +28,7 @@ pub fn place_of_transaction(transactions: &[Transaction], x: u64) -> Option<usiz
 }
 
 /// How the space joined the transaction, if it did.
-pub fn joined_at(state: &State, x: u64, space: u64) -> Option<&Joined>
+pub fn joined_at(state: &Core, x: u64, space: u64) -> Option<&Joined>
     ensures { option_copied result ≡ joined_of_space state.now x space }
 {
     match find_transaction(state.transactions.as_slice(), x) {
@@ -43,7 +44,7 @@ fn find_joined(joined: &[Joined], space: u64) -> Option<&Joined>
 }
 
 /// Whether the space joined the caller's transaction under another crash count than it has now.
-pub fn joined_otherwise(state: &State, caller: Option<u64>, space: Option<u64>) -> bool
+pub fn joined_otherwise(state: &Core, caller: Option<u64>, space: Option<u64>) -> bool
     ensures { result ≡ crashed_since state.now caller space }
 {
     match (caller, space) {
@@ -52,7 +53,7 @@ pub fn joined_otherwise(state: &State, caller: Option<u64>, space: Option<u64>) 
     }
 }
 
-fn has_crashed_since(state: &State, x: u64, space: u64) -> bool
+fn has_crashed_since(state: &Core, x: u64, space: u64) -> bool
     ensures { result ≡ crashed_since state.now (Some x) (Some space) }
 {
     match joined_at(state, x, space) {
@@ -62,7 +63,7 @@ fn has_crashed_since(state: &State, x: u64, space: u64) -> bool
 }
 
 /// The asked commit of the transaction, if it was asked and isn't decided.
-pub fn commit_of(state: &State, x: u64) -> Option<&Commit>
+pub fn commit_of(state: &Core, x: u64) -> Option<&Commit>
     ensures { option_copied result ≡ commit_asked state.now x }
 {
     find_commit(state.commits.as_slice(), x)
@@ -75,14 +76,14 @@ fn find_commit(commits: &[Commit], x: u64) -> Option<&Commit>
 }
 
 /// Whether there is such a transaction.
-pub fn is_living(state: &State, x: u64) -> bool
+pub fn is_living(state: &Core, x: u64) -> bool
     ensures { result ≡ lives state.now x }
 {
     transaction_of(state, x).is_some()
 }
 
 /// Whether the commit of the transaction was asked.
-pub fn is_voting(state: &State, x: u64) -> bool
+pub fn is_voting(state: &Core, x: u64) -> bool
     ensures { result ≡ votes state.now x }
 {
     commit_of(state, x).is_some()

@@ -3,8 +3,9 @@ ghost use Rattle.std.specs.Prelude.{◌≡◌, ◌≤◌, ◌+◌, ◌^◌, IfOk
 ghost use Rattle.jsp_model.specs.Changes.{begin as begun};
 ghost use Rattle.jsp_model.specs.declared.limits.TheConstants.{LAST_NUMBER, LAST_TIME};
 
+use jsp_core::Core;
 use jsp_lease::ms_of;
-use jsp_model::{State, Transaction};
+use jsp_model::Transaction;
 use jsp_types::{Items, NoMemory};
 use std::alloc::Global;
 
@@ -14,7 +15,7 @@ use std::alloc::Global;
 /// # Errors
 ///
 /// Where memory is refused the state is as it was.
-pub fn begin(alloc: Global, state: &mut State, lease: i64) -> Result<u64, NoMemory>
+pub fn begin(alloc: Global, state: &mut Core, lease: i64) -> Result<u64, NoMemory>
     requires time { state.old.time ≤ LAST_TIME }
     requires next_number { state.old.next_number ≤ LAST_NUMBER + 1 }
     ensures ok { IfOk result (λ n. (n ≡ state.old.next_number) × (state.new ≡ begun state.old lease)) }

@@ -1,15 +1,14 @@
 //! A transaction ends with its changes.
 ghost use Rattle.std.specs.Prelude.{◌≡◌, OnOk, OnErr};
-ghost use Rattle.jsp_model.specs.Changes.{committed, commit as after_commit, ask_commit as after_asking};
-ghost use Rattle.jsp_transactions.specs.Ending.{settled};
+ghost use Rattle.jsp_model.specs.Changes.{commit as after_commit, ask_commit as after_asking};
 ghost use Rattle.jsp_transactions.specs.Owing.{with_news};
 
 use crate::aborting::{forget, leave_active};
-use crate::marks::unread;
-use crate::owing::{News, owe_all};
-use jsp_model::{Commit, Row, State};
-use jsp_state::is_caller;
+use crate::owing::owe_all;
+use jsp_core::Core;
+use jsp_model::Commit;
 use jsp_types::NoMemory;
+use std::alloc::Global;
 
 /// The session's request of this id asks for the commit. From then on the transaction is voting: its
 /// blocked requests and match sets go. Only the commit that is noted takes memory.
@@ -17,7 +16,7 @@ use jsp_types::NoMemory;
 /// # Errors
 ///
 /// Where memory is refused the state is as it was.
-pub fn ask_commit(state: &mut State, session: u64, id: u64, x: u64) -> Result<(), NoMemory>
+pub fn ask_commit(state: &mut Core, session: u64, id: u64, x: u64) -> Result<(), NoMemory>
     ensures ok { OnOk result (state.new ≡ after_asking state.old session id x) }
     ensures err { OnErr result (state.new ≡ state.old) }
 {
@@ -38,45 +37,30 @@ pub fn ask_commit(state: &mut State, session: u64, id: u64, x: u64) -> Result<()
 /// # Errors
 ///
 /// Where memory is refused the state is as it was.
-pub fn commit(state: &mut State, x: u64) -> Result<(), NoMemory>
+pub fn commit(alloc: Global, state: &mut Core, x: u64) -> Result<(), NoMemory>
     ensures ok { OnOk result (state.new ≡ after_commit state.old x) }
     ensures err { OnErr result (state.new ≡ state.old) }
 {
-    owe_published(state, x)?;
+    owe_published(alloc, state, x)?;
     let rows = &mut state.rows;
-    settle_rows(&mut rows.items, x);
+    rows.commit(x);
     forget(state, x);
     Ok(())
 }
 
-fn owe_published(state: &mut State, x: u64) -> Result<(), NoMemory>
+fn owe_published(alloc: Global, state: &mut Core, x: u64) -> Result<(), NoMemory>
     ensures ok { OnOk result (state.new ≡ with_news state.old x) }
     ensures err { OnErr result (state.new ≡ state.old) }
 {
+    if state.registrations.as_slice().is_empty() {
+        return Ok(());
+    }
+    let published = state.rows.published(alloc, x)?;
     let registrations = &mut state.registrations;
     owe_all(
         &state.classes,
         &mut registrations.items,
-        state.rows.as_slice(),
-        News::Committed { transaction: x },
+        published.as_slice(),
+        None,
     )
-}
-
-fn settle_rows(rows: &mut Vec<Row>, x: u64)
-    ensures { rows.new.items ≡ committed x rows.old.items }
-{
-    rows.retain_mut(|row| {
-        let stays = !is_caller(row.taker, x);
-        settle(row, x);
-        stays
-    });
-}
-
-fn settle(row: &mut Row, x: u64)
-    ensures { row.new ≡ settled x row.old }
-{
-    if is_caller(row.writer, x) {
-        row.writer = None;
-    }
-    unread(row, x);
 }

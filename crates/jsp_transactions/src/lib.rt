@@ -15,19 +15,16 @@ mod aborting;
 mod beginning;
 mod committing;
 mod joining;
-mod marks;
 mod owing;
 mod removing;
 mod resetting;
-#[cfg(test)]
-mod tests;
 mod voting;
 
 pub use aborting::{abort, forget, leave_active};
 pub use beginning::begin;
 pub use committing::{ask_commit, commit};
 pub use joining::{Joining, join, leave};
-pub use owing::{News, forgive_all, owe_all};
+pub use owing::{forgive_all, owe_all};
 pub use removing::remove;
 pub use resetting::reset;
 pub use voting::cast_vote;

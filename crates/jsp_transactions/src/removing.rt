@@ -3,18 +3,19 @@ ghost use Rattle.std.specs.Prelude.{◌≡◌, ◌==◌, filter, not};
 ghost use Rattle.jsp_model.specs.Changes.{remove as removed};
 
 use crate::aborting::abort;
+use jsp_core::Core;
 use jsp_lease::Rank;
-use jsp_model::{Blocked, MatchSet, Registration, Row, State};
+use jsp_model::{Blocked, MatchSet, Registration};
 
 /// What has this rank and number goes, since its lease ended or was cancelled or its time is up. A
 /// transaction aborts (Jini Leasing, Jini Transactions). Takes no memory.
-pub fn remove(state: &mut State, rank: Rank, number: u64)
+pub fn remove(state: &mut Core, rank: Rank, number: u64)
     ensures { state.new ≡ removed state.old rank number }
 {
     match rank {
         Rank::Entry => {
             let rows = &mut state.rows;
-            drop_row(&mut rows.items, number);
+            rows.remove(number);
         }
         Rank::Registration => {
             let registrations = &mut state.registrations;
@@ -30,12 +31,6 @@ pub fn remove(state: &mut State, rank: Rank, number: u64)
             drop_set(&mut sets.items, number);
         }
     }
-}
-
-fn drop_row(rows: &mut Vec<Row>, number: u64)
-    ensures { rows.new.items ≡ filter (λ r. not (r.number == number)) rows.old.items }
-{
-    rows.retain(|r| !(r.number == number));
 }
 
 fn drop_registration(registrations: &mut Vec<Registration>, number: u64)

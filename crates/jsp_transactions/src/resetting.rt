@@ -5,20 +5,21 @@ ghost use Rattle.jsp_model.specs.Changes.{reset as after_reset};
 ghost use Rattle.jsp_transactions.specs.Resetting.{counted};
 ghost use Rattle.jsp_model.specs.declared.limits.TheConstants.{LAST_CRASH_COUNT};
 
-use jsp_model::{Blocked, MatchSet, Registration, Row, Space, State};
+use jsp_core::Core;
+use jsp_model::{Blocked, MatchSet, Registration, Space};
 
 /// The space starts anew, as after a crash (this profile's own): its rows, registrations and match
 /// sets go, and the requests under a transaction that wait there; those without one go on waiting.
 /// It counts the crash, so that it votes to abort where it had joined. Takes no memory. The caller's
 /// condition: each space counts fewer than 2^32 crashes.
-pub fn reset(state: &mut State, space: u64)
+pub fn reset(state: &mut Core, space: u64)
     requires { IsTrue (list_all (λ p. nat_le p.crash_count LAST_CRASH_COUNT) state.old.spaces) }
     ensures { state.new ≡ after_reset state.old space }
 {
     let spaces = &mut state.spaces;
     count_crash(&mut spaces.items, space);
     let rows = &mut state.rows;
-    drop_rows(&mut rows.items, space);
+    rows.clear(space);
     let registrations = &mut state.registrations;
     drop_registrations(&mut registrations.items, space);
     let blocked = &mut state.blocked;
@@ -36,12 +37,6 @@ fn count_crash(spaces: &mut [Space], space: u64)
         let found = &mut spaces[place];
         found.crash_count += 1;
     }
-}
-
-fn drop_rows(rows: &mut Vec<Row>, space: u64)
-    ensures { rows.new.items ≡ filter (λ r. not (r.space == space)) rows.old.items }
-{
-    rows.retain(|r| !(r.space == space));
 }
 
 fn drop_registrations(registrations: &mut Vec<Registration>, space: u64)

@@ -1,18 +1,16 @@
 //! The votes of joined spaces. Nothing here takes memory.
-ghost use Rattle.std.specs.Prelude.{◌≡◌, ◌==◌, ◌&&◌, ◌||◌, map};
-ghost use Rattle.std.specs.List.{list_any};
-ghost use Rattle.jsp_model.specs.Lookup.{is_caller as calls};
-ghost use Rattle.jsp_model.specs.Changes.{cast as after_cast, cast_vote as after_vote, vote_of as voted, has_changed as changes, is_not_changed as says_not_changed, release as released};
-ghost use Rattle.jsp_transactions.specs.Voting.{released_row, voting, voting_in};
+ghost use Rattle.std.specs.Prelude.{◌≡◌, map};
+ghost use Rattle.jsp_model.specs.Changes.{cast as after_cast, cast_vote as after_vote, vote_of as voted, has_changed as changes};
+ghost use Rattle.jsp_transactions.specs.Voting.{voting, voting_in};
 
-use crate::marks::unread;
-use jsp_model::{Joined, Row, State, Transaction, Vote};
-use jsp_state::{crash_count, is_caller, joined_at};
+use jsp_core::Core;
+use jsp_model::{Joined, Transaction, Vote};
+use jsp_state::{crash_count, joined_at};
 
 /// The space votes, if it joined the transaction: to abort where it was reset since, to commit with
 /// its changes where the transaction wrote or took there, and else that nothing is changed; then its
 /// read marks of the transaction go at once (Jini Transactions). Takes no memory.
-pub fn cast_vote(state: &mut State, x: u64, space: u64)
+pub fn cast_vote(state: &mut Core, x: u64, space: u64)
     ensures { state.new ≡ after_vote state.old x space }
 {
     match joined_at(state, x, space) {
@@ -24,17 +22,17 @@ pub fn cast_vote(state: &mut State, x: u64, space: u64)
     }
 }
 
-fn cast(state: &mut State, x: u64, joined: Joined)
+fn cast(state: &mut Core, x: u64, joined: Joined)
     ensures { state.new ≡ after_cast state.old x joined }
 {
     let vote = vote_of(state, x, joined);
     let rows = &mut state.rows;
-    release(&mut rows.items, vote, x, joined.space);
+    rows.release(vote, x, joined.space);
     let transactions = &mut state.transactions;
     set_votes(&mut transactions.items, x, joined.space, vote);
 }
 
-fn vote_of(state: &State, x: u64, joined: Joined) -> Vote
+fn vote_of(state: &Core, x: u64, joined: Joined) -> Vote
     ensures { result ≡ voted state.now x joined }
 {
     if joined.crash_count != crash_count(state, joined.space) {
@@ -46,39 +44,10 @@ fn vote_of(state: &State, x: u64, joined: Joined) -> Vote
     Vote::NotChanged
 }
 
-fn has_changed(state: &State, x: u64, space: u64) -> bool
+fn has_changed(state: &Core, x: u64, space: u64) -> bool
     ensures { result ≡ changes state.now x space }
 {
-    has_changes(state.rows.as_slice(), x, space)
-}
-
-fn has_changes(rows: &[Row], x: u64, space: u64) -> bool
-    ensures { result ≡ list_any (λ r. r.space == space && (calls r.writer x || calls r.taker x)) rows.now }
-{
-    rows.iter().any(|r| r.space == space && (is_caller(r.writer, x) || is_caller(r.taker, x)))
-}
-
-/// A space that is not changed forgets that the transaction read there.
-fn release(rows: &mut [Row], vote: Vote, x: u64, space: u64)
-    ensures { rows.new ≡ released vote x space rows.old }
-{
-    'rows: for row in rows.iter_mut() {
-        release_row(row, vote, x, space);
-    }
-}
-
-fn release_row(row: &mut Row, vote: Vote, x: u64, space: u64)
-    ensures { row.new ≡ released_row vote x space row.old }
-{
-    if is_not_changed(vote) && row.space == space {
-        unread(row, x);
-    }
-}
-
-fn is_not_changed(vote: Vote) -> bool
-    ensures { result ≡ says_not_changed vote }
-{
-    matches!(vote, Vote::NotChanged)
+    state.rows.has_changed(x, space)
 }
 
 fn set_votes(transactions: &mut [Transaction], x: u64, space: u64, vote: Vote)

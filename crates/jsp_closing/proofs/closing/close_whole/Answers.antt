@@ -23,7 +23,7 @@ returns c =
     let state : c.state-state.result.now ≡ state_after start steps = c.state-state.ensures.state ∙ replayed.image ∙ ap (state_after start) same in
     let said : c.as_slice-7.result.now ≡ said_in start steps = c.as_slice-7.ensures.value ∙ replayed.said ∙ ap (said_in start) same in
     let count : (state_after start steps).last_session ≡ length reports =
-    ap (λ (st : State). st.last_session) (sym state) ∙ omega (arith, c.if-state-len.false, c.len.ensures, c.sort_by_key.new.self.ok.0) in
+    ap (λ (st : State). st.last_session) (sym state) ∙ omega (arith, c.if-state-len.false, c.len.ensures, c.sort_by_key.new.self.ok.0, ap (λ (st : State). st.last_session) c.state.view_is) in
     let opened : length (filter opens steps) ≡ length reports =
     ap (λ (xs : List Step). length (filter opens xs)) (sym c.as_slice-8.ensures.value) ∙ omega (arith, c.are_opened.ensures c.if-not-are_opened.false, c.len-2.ensures, c.sort_by_key.new.self.ok.0) in
     let asks : AllAsk steps (state_after start steps) reports =

@@ -10,7 +10,8 @@ pub returns-else-is_take-clause-ok : goal.returns-else-is_take-clause-ok
 returns-else-is_take-clause-ok c = give_leaves c.args.state.now c.args.form c.args.caller c.args.rows.now c.in-None.is (sym c.if-is_take.ensures)
 
 pub returns-then-is_take-2-clause-ok : goal.returns-then-is_take-2-clause-ok
-returns-then-is_take-2-clause-ok c = c.take_all.ensures ∙ give_takes c.args.state.now c.args.form c.args.caller c.args.rows.now c.in-Some.x c.in-Some.is (sym c.if-is_take-2.ensures)
+returns-then-is_take-2-clause-ok c =
+    on_ok_weaker c.take_all.result (λ made. made ∙ give_takes c.args.state.now c.args.form c.args.caller c.args.rows.now c.in-Some.x c.in-Some.is (sym c.if-is_take-2.ensures)) c.take_all.ensures.ok
 
 pub returns-else-is_take-2-clause-ok : goal.returns-else-is_take-2-clause-ok
 returns-else-is_take-2-clause-ok c =

@@ -8,6 +8,6 @@ returns-in-empty-clause-ok c = read_none c.args.x c.args.numbers.now c.args.rows
 
 pub returns-in-len1-up-clause-ok : goal.returns-in-len1-up-clause-ok
 returns-in-len1-up-clause-ok c =
-    on_ok_weaker c.read_one.result
+    on_ok_weaker c.read.result
     (λ made. made ∙ read_just c.args.x c.args.numbers.now c.args.rows.now c.in-len1-up.len_at_least c.requires.one)
-    c.read_one.ensures.ok
+    c.read.ensures.ok

@@ -6,8 +6,8 @@ use Rattle.jsp_entries.proofs.write.store.Goals as goal
 pub returns-clause-owed_stay : goal.returns-clause-owed_stay
 returns-clause-owed_stay c =
     let classes = c.args.classes.now in
-    let news = c.args.news in
-    let same : c.as_slice-in-Err.result.now ≡ c.args.rows.items = c.as_slice-in-Err.ensures.value ∙ c.in-Err.ensures.other_items in
+    let news = c.args.caller in
+    let same : c.as_slice-in-Err.result.now ≡ c.args.rows.items = c.as_slice-in-Err.ensures.value ∙ c.in-Err.ensures.rows_stay in
     let told : c.owe_all.new.registrations ≡ map (owed classes news c.args.rows.items) c.args.registrations.now = rw c.as_slice.ensures.value at c.in_ok-owe_all.ensures.ok in
     c.forgive_all.ensures ∙ (ap (λ rows. map (forgiven classes news rows) c.owe_all.new.registrations) same
     ∙ (ap (map (forgiven classes news c.args.rows.items)) told ∙ all_forgiven classes news c.args.rows.items c.args.registrations.now))

@@ -1,6 +1,6 @@
 use Rattle.std.proofs.Common.{◌∙◌, ap, sym, set}
 use Rattle.jsp_model.specs.declared.state.Registration.{Registration}
-use Rattle.jsp_state.proofs.Unique.{update_at, update_none}
+use Rattle.jsp_store.proofs.Unique.{update_at, update_none}
 use Rattle.jsp_grants.specs.Registering.{told_once}
 use Rattle.jsp_grants.proofs.registration.tell_one.Goals as goal
 

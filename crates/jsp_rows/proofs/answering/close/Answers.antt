@@ -1,4 +1,4 @@
-use Rattle.std.proofs.Common.{◌≡◌, true, refl, sym, ◌∙◌, length, ◌<◌, arith, subst}
+use Rattle.std.proofs.Common.{◌≡◌, true, sym, ◌∙◌, length, ◌<◌, arith, subst}
 use Rattle.jsp_model.specs.declared.state.State.{State}
 use Rattle.jsp_model.specs.Lookup.{is_open}
 use Rattle.jsp_model.proofs.Sessions.{shut_closes_one}

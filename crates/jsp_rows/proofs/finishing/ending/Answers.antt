@@ -1,4 +1,3 @@
-use Rattle.std.proofs.Common.{◌≡◌, sym, ◌∙◌}
 use Rattle.jsp_quiet.proofs.Laws.{goes_on}
 use Rattle.jsp_rows.proofs.finishing.ending.Goals as goal
 

@@ -1,4 +1,4 @@
-use Rattle.std.proofs.Common.{◌≡◌, true, refl, ℕ, ◌≤◌, arith}
+use Rattle.std.proofs.Common.{◌≡◌, true, refl, arith}
 use Rattle.std.specs.Prelude.{option_copied}
 use Rattle.jsp_model.specs.House.{is_unasked}
 use Rattle.jsp_model.specs.Steps.{is_legal}

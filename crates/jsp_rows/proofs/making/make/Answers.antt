@@ -1,4 +1,4 @@
-use Rattle.std.proofs.Common.{◌≡◌, sym, ◌∙◌}
+use Rattle.std.proofs.Common.{sym, ◌∙◌}
 use Rattle.jsp_rows.proofs.Logging.{keeps_step}
 use Rattle.jsp_rows.proofs.making.make.Goals as goal
 

@@ -1,4 +1,4 @@
-use Rattle.std.proofs.Common.{◌≡◌, ◌+◌, ◌∙◌, refl, take}
+use Rattle.std.proofs.Common.{◌∙◌, refl, take}
 use Rattle.std.proofs.lemmas.List.Folds.{list_all_more}
 use Rattle.jsp_model.specs.Lookup.{contains}
 use Rattle.jsp_model.specs.House.{Covers}

@@ -1,4 +1,4 @@
-use Rattle.std.proofs.Common.{◌≡◌, sym, ◌∙◌, subst}
+use Rattle.std.proofs.Common.{sym, subst}
 use Rattle.jsp_model.specs.House.{Covers}
 use Rattle.jsp_rows.proofs.Going.{covers_itself, covers_pushed}
 use Rattle.jsp_rows.proofs.owing.owe_one.Goals as goal

@@ -1,8 +1,8 @@
-use Rattle.std.proofs.Common.{◌≤◌, length}
-use Rattle.jsp_state.proofs.Choosing.{chosen_early}
+use Rattle.std.proofs.Common.{◌∙◌, ap, take}
+use Rattle.std.proofs.lemmas.Result.{IfOk-weaker}
+use Rattle.jsp_model.specs.declared.state.State.{State}
+use Rattle.jsp_model.specs.Sight.{available}
 use Rattle.jsp_state.proofs.choices.choose.Goals as goal
 
-pub returns-then-most-as_slice : goal.returns-then-most-as_slice
-returns-then-most-as_slice c =
-    let enough : c.args.blocked.now.most ≤ length c.rows.numbers = rw c.as_slice.ensures at c.if-most-as_slice.true in
-    chosen_early c.args.state.now c.args.blocked.now c.args.state.now.rows c.rows.row-index c.args.blocked.now.most c.rows.numbers enough c.rows.invariant.few c.rows.invariant.found
+pub returns : goal.returns
+returns c = IfOk-weaker c.choose.result _ _ (λ ns h. h ∙ ap (λ (st : State). take c.args.blocked.now.most (available st c.args.blocked.now)) c.state.view_is) c.choose.ensures

@@ -1,8 +1,11 @@
-use Rattle.jsp_state.proofs.Soonest.{due_is}
+use Rattle.std.proofs.Common.{ap}
+use Rattle.jsp_model.specs.declared.state.State.{State}
+use Rattle.jsp_state.proofs.Soonest.{due_is_seen}
 use Rattle.jsp_state.proofs.ends.due.Goals as goal
 
 pub returns : goal.returns
 returns c =
-    due_is c.args.state.now _ _ _ _ _ (rw c.as_slice.ensures at c.first_set-first.ensures) (rw c.as_slice-2.ensures at c.first_blocked-first.ensures) c.first_transaction-first.ensures
+    due_is_seen c.args.state.now _ _ _ _ _ _ _ _ _ _ (ap (λ (st : State). st.time) c.state.view_is) (ap (λ (st : State). st.sets) c.state.view_is) (ap (λ (st : State). st.blocked) c.state.view_is) (ap (λ (st : State). st.registrations) c.state.view_is) (ap (λ (st : State). st.rows) c.state.view_is)
+    (rw c.as_slice.ensures at c.first_set-first.ensures) (rw c.as_slice-2.ensures at c.first_blocked-first.ensures) c.first_transaction-first.ensures
     (rw c.as_slice-3.ensures at c.first_registration-first.ensures)
-    (rw c.as_slice-4.ensures at c.first_row.ensures)
+    (rw c.due.ensures at c.soonest.ensures)

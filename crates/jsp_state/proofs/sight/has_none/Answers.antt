@@ -1,8 +1,8 @@
-use Rattle.std.proofs.Common.{◌∙◌, ap}
-use Rattle.std.specs.Prelude.{not}
-use Rattle.jsp_model.specs.Sight.{is_available}
-use Rattle.jsp_state.proofs.Available.{none_is}
+use Rattle.std.proofs.Common.{length, ◌∙◌, ap}
+use Rattle.std.specs.Prelude.{◌==◌}
+use Rattle.jsp_model.specs.declared.state.State.{State}
+use Rattle.jsp_model.specs.Sight.{available}
 use Rattle.jsp_state.proofs.sight.has_none.Goals as goal
 
 pub returns : goal.returns
-returns c = ap not c.has_one.ensures ∙ none_is _ (is_available c.args.state.now c.args.blocked.now) c.args.state.now.rows
+returns c = c.has_none.ensures ∙ ap (λ (st : State). length (available st c.args.blocked.now) == 0) c.state.view_is

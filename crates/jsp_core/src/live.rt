@@ -1,0 +1,56 @@
+//! A state that is worked on, with the limits of the profile in its type.
+ghost use Rattle.std.specs.Prelude.{◌≡◌, IfOk};
+ghost use Rattle.jsp_model.specs.Limits.{IsWithinLimits};
+
+use crate::Core;
+use jsp_model::Image;
+use jsp_store::Keeping;
+use jsp_types::NoMemory;
+use std::alloc::Global;
+use std::marker::Model;
+
+/// A state within its limits, to be searched and changed. Contracts see it as the state.
+///
+/// Whoever changes the state shows the limits again.
+#[derive(Drop)]
+pub struct LiveImage {
+    pub state: Core,
+}
+
+impl Model for LiveImage {
+    ghost use Rattle.jsp_model.specs.declared.state.State.{State};
+    ghost use Rattle.jsp_model.specs.Limits.{IsWithinLimits};
+
+    ghost Value = { State };
+
+    ghost view = { λ a. a.state };
+
+    ghost invariant = { λ a. IsWithinLimits a.state };
+}
+
+impl LiveImage {
+    /// The state of this image, whose rows are kept so.
+    pub fn of(alloc: Global, image: Image, keeping: Keeping) -> Result<LiveImage, NoMemory>
+        ensures { IfOk result (λ i. i ≡ image) }
+    {
+        let Image { state } = image;
+        let state = Core::of(alloc, state, keeping)?;
+        Ok(LiveImage { state })
+    }
+
+    /// The image of it, kept plain.
+    pub fn to_image(&self, alloc: Global) -> Result<Image, NoMemory>
+        ensures { IfOk result (λ i. i ≡ self.now) }
+    {
+        let state = self.state.to_state(alloc)?;
+        Ok(Image { state })
+    }
+
+    /// The state.
+    pub fn state(&self) -> &Core
+        ensures state { result.now ≡ self.now }
+        ensures limits { IsWithinLimits self.now }
+    {
+        &self.state
+    }
+}

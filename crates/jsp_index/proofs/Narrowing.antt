@@ -1,0 +1,123 @@
+-- Which rows a list of hints has to name.
+use Rattle.std.proofs.Common.{◌≡◌, ℕ, ◌+◌, ◌<◌, Bool, true, false, ◌&&◌, ◌||◌, eqb, nat_lt, List, [], ◌∷◌, ◌++◌, length, take, get_or, Some, None, refl, ap, sym, ◌∙◌, inl, inr, ◌⊎◌}
+use Rattle.std.specs.Prelude.{bytes_eq, nat_eq}
+use Rattle.std.specs.List.{list_any}
+use Rattle.std.specs.Option.{option_map_or}
+use Rattle.std.specs.HashMap.{HashMap, get}
+use Rattle.std.proofs.lemmas.List.{take_more}
+use Rattle.std.proofs.lemmas.Slice.Eq.{bytes_eq-Decides}
+use Rattle.jsp_types.specs.declared.class.Class.{Class}
+use Rattle.jsp_types.specs.declared.entry.Entry.{Entry}
+use Rattle.jsp_types.specs.declared.entry.Template.{Template}
+use Rattle.jsp_types.specs.declared.entry.Template.TheVariants.{Like}
+use Rattle.jsp_types.specs.Classes.{is_sub}
+use Rattle.jsp_types.specs.Matching.{matches}
+use Rattle.jsp_model.specs.declared.state.Row.{Row}
+use Rattle.jsp_table.specs.Numbers.{contains, names}
+use Rattle.jsp_table.specs.Finding.{is_hit}
+use Rattle.jsp_table.proofs.Rising.{or_cases}
+use Rattle.jsp_index.specs.Keys.{class_key}
+use Rattle.jsp_index.specs.Hinted.{IsHinted, IsKeyFor, IsAmong}
+use Rattle.jsp_index.specs.Finding.{is_next, is_asked, is_like}
+use Rattle.jsp_index.proofs.Covering.{and_both, eqb_eq}
+
+pub and_true : (a b : Bool) → a ≡ true → b ≡ true → (a && b) ≡ true
+and_true a b h k = rw (h, k) refl
+
+module _ (passed : Row → Bool) (numbers : List ℕ) (after : ℕ) where
+  pub hit_passes : (r : Row) → is_hit (λ (r : Row). r.number) passed numbers after r ≡ true → is_next passed after r ≡ true
+  hit_passes r h =
+      let one = and_both (nat_lt after r.number) (contains numbers r.number && passed r) h in
+      let two = and_both (contains numbers r.number) (passed r) one.1 in
+      and_true (nat_lt after r.number) (passed r) one.0 two.1
+
+  pub named_hits : {S : Type 0} (hints : HashMap ℕ (List ℕ) S) (key : ℕ) → get nat_eq hints key ≡ Some numbers → (r : Row) → is_next passed after r ≡ true → names hints key r.number ≡ true → is_hit (λ (r : Row). r.number) passed numbers after r ≡ true
+  named_hits hints key there r h named =
+      let one = and_both (nat_lt after r.number) (passed r) h in
+      let has : contains numbers r.number ≡ true = sym (ap (λ o. option_map_or (λ ns. contains ns r.number) o false) there) ∙ named in
+      and_true (nat_lt after r.number) (contains numbers r.number && passed r) one.0 (and_true (contains numbers r.number) (passed r) has one.1)
+
+pub not_named : {S : Type 0} (hints : HashMap ℕ (List ℕ) S) (key n : ℕ) → get nat_eq hints key ≡ None → names hints key n ≡ false
+not_named hints key n none = ap (λ o. option_map_or (λ ns. contains ns n) o false) none
+
+module _ {S : Type 0} (seed : ℕ) (hints : HashMap ℕ (List ℕ) S) (space : ℕ) where
+  pub like_named : (classes : List Class) (template : Template) (key : ℕ) → IsKeyFor seed hints classes template space key → (r : Row) → IsHinted seed hints r → is_like classes space template r ≡ true → names hints key r.number ≡ true
+  like_named classes template key covers r h k =
+      let two = and_both (eqb r.space space) (matches classes template r.entry) k in
+      covers r h (eqb_eq r.space space two.0) two.1
+
+-- ---- class by class
+
+-- like the template, and of one of these classes
+abbrev pub is_like_of : List Class → ℕ → Entry → List (List ℕ) → Row → Bool
+is_like_of classes space like seen r = is_like classes space (Like like) r && list_any (λ c. bytes_eq c r.entry.class) seen
+
+any_end : {X : Type 0} (p : X → Bool) (xs : List X) (x : X) → list_any p (xs ++ x ∷ []) ≡ true → (list_any p xs ≡ true) ⊎ (p x ≡ true)
+any_end p [] x h = elim (or_cases (p x) false h) [ inl e ↦ inr e | inr e ↦ absurd (cc) ]
+any_end p (y ∷ xs) x h = elim (or_cases (p y) (list_any p (xs ++ x ∷ [])) h) [
+  | inl e ↦ inl (rw e refl)
+  | inr e ↦ elim (any_end p xs x e) [ inl f ↦ inl (or_right (p y) (list_any p xs) f) | inr f ↦ inr f ]
+] where
+  or_right : (a b : Bool) → b ≡ true → (a || b) ≡ true
+  or_right true b h = refl
+  or_right false b h = h
+
+pub any_more : {X : Type 0} (p : X → Bool) (xs : List X) (i : ℕ) (x : X) → i < length xs → x ≡ get_or xs i x → list_any p (take (i + 1) xs) ≡ true → (list_any p (take i xs) ≡ true) ⊎ (p x ≡ true)
+any_more p xs i x lt is h = any_end p (take i xs) x (ap (list_any p) (sym (take_more xs i x lt ∙ ap (λ w. take i xs ++ w ∷ []) (sym is))) ∙ h)
+
+-- like the template, and of the class
+abbrev pub is_like_and : List Class → ℕ → Entry → List ℕ → Row → Bool
+is_like_and classes space like class r = is_like classes space (Like like) r && bytes_eq class r.entry.class
+
+module _ (classes : List Class) (space : ℕ) (like : Entry) (class : List ℕ) where
+  pub class_named : {S : Type 0} (seed : ℕ) (hints : HashMap ℕ (List ℕ) S) (r : Row) → IsHinted seed hints r → is_like_and classes space like class r ≡ true → names hints (class_key seed space class) r.number ≡ true
+  class_named seed hints r h k =
+      let two = and_both (is_like classes space (Like like) r) (bytes_eq class r.entry.class) k in
+      let at : r.space ≡ space = eqb_eq r.space space (and_both (eqb r.space space) (matches classes (Like like) r.entry) two.0).0 in
+      let same : class ≡ r.entry.class = (bytes_eq-Decides class r.entry.class).0 two.1 in
+      rw (← at, same) h.by_class
+
+  pub class_apart : is_sub classes class like.class ≡ false → (r : Row) → is_like_and classes space like class r ≡ false
+  class_apart none r = at (is_like_and classes space like class r) refl where
+    at : (b : Bool) → is_like_and classes space like class r ≡ b → b ≡ false
+    at false k = refl
+    at true k =
+        let two = and_both (is_like classes space (Like like) r) (bytes_eq class r.entry.class) k in
+        let matched = (and_both (eqb r.space space) (matches classes (Like like) r.entry) two.0).1 in
+        let sub = (and_both (is_sub classes r.entry.class like.class) _ matched).0 in
+        absurd (cc (sub, none, ap (λ w. is_sub classes w like.class) ((bytes_eq-Decides class r.entry.class).0 two.1)))
+
+  pub class_more : (seen : List (List ℕ)) (i : ℕ) → i < length seen → class ≡ get_or seen i class → (r : Row) → is_like_of classes space like (take (i + 1) seen) r ≡ true
+      → (is_like_of classes space like (take i seen) r ≡ true) ⊎ (is_like_and classes space like class r ≡ true)
+  class_more seen i lt is r h =
+      let two = and_both (is_like classes space (Like like) r) (list_any (λ c. bytes_eq c r.entry.class) (take (i + 1) seen)) h in
+      elim (any_more (λ c. bytes_eq c r.entry.class) seen i class lt is two.1) [
+        | inl e ↦ inl (and_true (is_like classes space (Like like) r) (list_any (λ c. bytes_eq c r.entry.class) (take i seen)) two.0 e)
+        | inr e ↦ inr (and_true (is_like classes space (Like like) r) (bytes_eq class r.entry.class) two.0 e)
+      ]
+
+pub of_none : (classes : List Class) (space : ℕ) (like : Entry) (seen : List (List ℕ)) (r : Row) → is_like_of classes space like (take 0 seen) r ≡ false
+of_none classes space like seen r = none (is_like classes space (Like like) r) where
+  none : (b : Bool) → (b && false) ≡ false
+  none true = refl
+  none false = refl
+
+pub of_seen : (classes : List Class) (space : ℕ) (like : Entry) (seen : List (List ℕ)) (r : Row) → IsAmong seen r.entry.class → is_like classes space (Like like) r ≡ true → is_like_of classes space like seen r ≡ true
+of_seen classes space like seen r among h = and_true (is_like classes space (Like like) r) (list_any (λ c. bytes_eq c r.entry.class) seen) h among
+
+-- ---- template by template
+
+pub asked_more : (classes : List Class) (space : ℕ) (templates : List Template) (i : ℕ) (template : Template) → i < length templates → template ≡ get_or templates i template → (r : Row) → is_asked classes space (take (i + 1) templates) r ≡ true
+    → (is_asked classes space (take i templates) r ≡ true) ⊎ (is_like classes space template r ≡ true)
+asked_more classes space templates i template lt is r h =
+    let two = and_both (eqb r.space space) (list_any (λ t. matches classes t r.entry) (take (i + 1) templates)) h in
+    elim (any_more (λ t. matches classes t r.entry) templates i template lt is two.1) [
+      | inl e ↦ inl (and_true (eqb r.space space) (list_any (λ t. matches classes t r.entry) (take i templates)) two.0 e)
+      | inr e ↦ inr (and_true (eqb r.space space) (matches classes template r.entry) two.0 e)
+    ]
+
+pub asked_none : (classes : List Class) (space : ℕ) (templates : List Template) (r : Row) → is_asked classes space (take 0 templates) r ≡ false
+asked_none classes space templates r = none (eqb r.space space) where
+  none : (b : Bool) → (b && false) ≡ false
+  none true = refl
+  none false = refl

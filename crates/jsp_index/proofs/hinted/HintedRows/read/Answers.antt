@@ -1,0 +1,10 @@
+use Rattle.std.proofs.Common.{sym, subst}
+use Rattle.jsp_index.specs.Holding.{AreHeld}
+use Rattle.jsp_index.proofs.Holders.{held_read, all_still_held}
+use Rattle.jsp_index.proofs.hinted.HintedRows.read.Goals as goal
+
+pub invariant_of-self-2 : goal.invariant_of-self-2
+invariant_of-self-2 c =
+    let holders = c.add_hint.new.hints in
+    let still = all_still_held c.self.inside.holders holders c.self.inside.rows c.add_hint.ensures.keeps c.self.invariant in
+    subst (AreHeld holders) (sym c.in_ok-try_change.ensures.ok) (held_read holders c.args.number c.args.x c.self.inside.rows c.in_ok-add_hint.ensures.ok still)

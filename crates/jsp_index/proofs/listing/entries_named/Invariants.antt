@@ -1,0 +1,12 @@
+use Rattle.std.proofs.Common.{◌≡◌, ◌++◌, ◌&&◌, length, map}
+use Rattle.std.specs.Prelude.{filter}
+use Rattle.jsp_model.specs.declared.state.Row.{Row}
+use Rattle.jsp_table.specs.Numbers.{contains}
+use Rattle.jsp_index.specs.Finding.{is_next}
+use Rattle.jsp_index.proofs.listing.entries_named.Given as goal
+
+abbrev pub invariant-rows : goal.invariant-rows
+invariant-rows g l = l.entries ++ (map (λ (r : Row). r.entry) (filter (is_next (λ (r : Row). contains l.numbers r.number && g.P.Test.is_passed l.test r) l.after) l.rows)) ≡ map (λ (r : Row). r.entry) (filter (is_next (λ (r : Row). contains l.numbers r.number && g.P.Test.is_passed l.test r) 0) l.rows)
+
+abbrev pub decreases-rows : goal.decreases-rows
+decreases-rows g l = length (filter (is_next (λ (r : Row). contains l.numbers r.number && g.P.Test.is_passed l.test r) l.after) l.rows)

@@ -1,0 +1,10 @@
+use Rattle.std.proofs.Common.{◌≡◌, length, take, drop}
+use Rattle.std.specs.Prelude.{filter}
+use Rattle.jsp_index.specs.Finding.{is_next}
+use Rattle.jsp_index.proofs.walking.count_found.Given as goal
+
+abbrev pub invariant-rows : goal.invariant-rows
+invariant-rows g l = record {
+  rest : drop l.count (filter (is_next (g.P.Test.is_passed l.test) l.from) l.rows) ≡ filter (is_next (g.P.Test.is_passed l.test) l.after) l.rows;
+  found : l.count ≡ length (take l.count (filter (is_next (g.P.Test.is_passed l.test) l.from) l.rows));
+}

@@ -1,0 +1,6 @@
+pub mod Keys
+pub mod Hinted
+pub mod Numbered
+pub mod Finding
+pub mod Holding
+pub mod Changing

@@ -1,0 +1,112 @@
+//! What is asked of a row, as tests.
+ghost use Rattle.std.specs.Prelude.{◌≡◌, ◌==◌, ◌&&◌, ◌||◌, not};
+ghost use Rattle.jsp_model.specs.Lookup.{contains as has, is_caller as calls};
+ghost use Rattle.jsp_sight.specs.Rows.{offered, held, shows};
+
+use jsp_model::{Blocked, MatchSet, Row};
+use jsp_sight::{contains, is_available, is_caller, is_in_conflict, may_show};
+use jsp_table::Test;
+use jsp_types::Classes;
+
+/// Whether a request may be given the row.
+#[derive(Drop)]
+pub(crate) struct Offered<'a> {
+    pub(crate) classes: &'a Classes,
+    pub(crate) blocked: &'a Blocked,
+}
+
+impl<'a> Test<Row> for Offered<'a> {
+    ghost is_passed = { λ s r. offered s.classes.now s.blocked.now r };
+
+    fn passes(&self, row: &Row) -> bool {
+        is_available(self.classes, self.blocked, row)
+    }
+}
+
+/// Whether a request wants the row, and it is in conflict.
+#[derive(Drop)]
+pub(crate) struct InConflict<'a> {
+    pub(crate) classes: &'a Classes,
+    pub(crate) blocked: &'a Blocked,
+}
+
+impl<'a> Test<Row> for InConflict<'a> {
+    ghost is_passed = { λ s r. held s.classes.now s.blocked.now r };
+
+    fn passes(&self, row: &Row) -> bool {
+        is_in_conflict(self.classes, self.blocked, row)
+    }
+}
+
+/// Whether a match set may still show the row.
+#[derive(Drop)]
+pub(crate) struct Shown<'a> {
+    pub(crate) classes: &'a Classes,
+    pub(crate) set: &'a MatchSet,
+}
+
+impl<'a> Test<Row> for Shown<'a> {
+    ghost is_passed = { λ s r. shows s.classes.now s.set.now r };
+
+    fn passes(&self, row: &Row) -> bool {
+        may_show(self.classes, self.set, row)
+    }
+}
+
+/// Whether the row is in a space.
+#[derive(Drop)]
+pub(crate) struct InSpace {
+    pub(crate) space: u64,
+}
+
+impl Test<Row> for InSpace {
+    ghost is_passed = { λ s r. r.space == s.space };
+
+    fn passes(&self, row: &Row) -> bool {
+        row.space == self.space
+    }
+}
+
+/// Whether the row has one of these numbers.
+#[derive(Drop)]
+pub(crate) struct OneOf<'a> {
+    pub(crate) numbers: &'a [u64],
+}
+
+impl<'a> Test<Row> for OneOf<'a> {
+    ghost is_passed = { λ s r. has s.numbers.now r.number };
+
+    fn passes(&self, row: &Row) -> bool {
+        contains(self.numbers, row.number)
+    }
+}
+
+/// Whether a transaction wrote or took the row in a space.
+#[derive(Drop)]
+pub(crate) struct ChangedBy {
+    pub(crate) transaction: u64,
+    pub(crate) space: u64,
+}
+
+impl Test<Row> for ChangedBy {
+    ghost is_passed = { λ s r. r.space == s.space && (calls r.writer s.transaction || calls r.taker s.transaction) };
+
+    fn passes(&self, row: &Row) -> bool {
+        let x = self.transaction;
+        row.space == self.space && (is_caller(row.writer, x) || is_caller(row.taker, x))
+    }
+}
+
+/// Whether a transaction wrote the row and didn't take it.
+#[derive(Drop)]
+pub(crate) struct PublishedBy {
+    pub(crate) transaction: u64,
+}
+
+impl Test<Row> for PublishedBy {
+    ghost is_passed = { λ s r. calls r.writer s.transaction && not (calls r.taker s.transaction) };
+
+    fn passes(&self, row: &Row) -> bool {
+        is_caller(row.writer, self.transaction) && !is_caller(row.taker, self.transaction)
+    }
+}

@@ -1,0 +1,265 @@
+//! What is found among rows by hints. Only what answers in lists takes memory.
+ghost use Rattle.std.specs.Prelude.{◌≡◌, ◌==◌, ◌&&◌, ◌||◌, ◌≤◌, ℕ, true, map, filter, take, length, slice_get, Bool, None, IfOk};
+ghost use Rattle.std.specs.List.{list_any, last_or};
+ghost use Rattle.std.specs.Fn.{FnReturnsAt};
+ghost use Rattle.jsp_lease.specs.Due.{first_item, over_by};
+ghost use Rattle.jsp_model.specs.declared.state.Row.{Row as OfRow};
+ghost use Rattle.jsp_model.specs.Lookup.{contains as has, is_caller as calls};
+ghost use Rattle.jsp_model.specs.Changes.{published};
+ghost use Rattle.jsp_table.specs.Numbers.{contains};
+ghost use Rattle.jsp_sight.specs.Rows.{offered_among, held, shows, row_end, entries_among};
+
+use crate::asking::{ChangedBy, InConflict, Offered, OneOf, PublishedBy, Shown};
+use crate::listing::{copies_of, entries_named, rows_named};
+use crate::walking::{Sought, count_found, entries_found, last_found, numbers_found};
+use crate::{HintedRows, NoMemory};
+use jsp_model::{Blocked, Item, MatchSet, Row};
+use jsp_sight::is_available;
+use jsp_table::Numbers;
+use jsp_types::{Classes, Entry, Items};
+use std::alloc::Global;
+
+impl HintedRows {
+    /// How many rows a space has.
+    pub fn count_in(&self, space: u64) -> usize
+        ensures { result ≡ length (filter (λ r. r.space == space) self.now) }
+    {
+        self.rows.count_in(space)
+    }
+
+    /// No fewer than the rows that a space has, found without looking at any.
+    pub fn at_most_in(&self, space: u64) -> usize
+        ensures { length (filter (λ r. r.space == space) self.now) ≤ result }
+    {
+        self.rows.at_most_in(space)
+    }
+
+    /// Whether a row has this number.
+    pub fn has(&self, number: u64) -> bool
+        ensures { result ≡ list_any (λ r. r.number == number) self.now }
+    {
+        match self.rows.get(number) {
+            None => false,
+            Some(_) => true,
+        }
+    }
+
+    /// The row whose end has come and comes first, as an item.
+    pub fn due(&self, time: u64) -> Option<Item>
+        ensures { result ≡ first_item (over_by time (map row_end self.now)) }
+    {
+        self.rows.due(time)
+    }
+
+    /// Whether a row of this number passes a test of the caller's.
+    pub fn any_of<F: Fn(&Row) -> bool>(&self, number: u64, test: F) -> bool
+        requires { F.IsAlwaysCallable test }
+        ensures { (p : OfRow → Bool) → ((r : OfRow) (b : Bool) → FnReturnsAt F.Fn test r b → b ≡ p r) → result ≡ list_any (λ r. r.number == number && p r) self.now }
+    {
+        match self.rows.get(number) {
+            None => false,
+            Some(row) => test(row),
+        }
+    }
+
+    /// The spaces of the rows of this number.
+    pub fn spaces_of(&self, alloc: Global, number: u64) -> Result<Vec<u64>, NoMemory>
+        ensures { IfOk result (λ v. v.items ≡ map (λ r. r.space) (filter (λ r. r.number == number) self.now)) }
+    {
+        let mut spaces = Vec::new(alloc);
+        let Some(row) = self.rows.get(number) else {
+            return Ok(spaces);
+        };
+        spaces.push(row.space)?;
+        Ok(spaces)
+    }
+
+    /// The row that the request may be given whose number is the least.
+    pub fn first_available(&self, classes: &Classes, blocked: &Blocked) -> Option<u64>
+        ensures { result ≡ slice_get (offered_among classes.now blocked.now self.now) 0 }
+    {
+        let templates = blocked.templates.as_slice();
+        let test = Offered { classes, blocked };
+        match self
+            .rows
+            .first_above(classes, blocked.space, templates, 0, &test)
+        {
+            None => None,
+            Some(row) => Some(row.number),
+        }
+    }
+
+    /// Whether there is none.
+    pub fn has_none(&self, classes: &Classes, blocked: &Blocked) -> bool
+        ensures { result ≡ (length (offered_among classes.now blocked.now self.now) == 0) }
+    {
+        match self.first_available(classes, blocked) {
+            None => true,
+            Some(_) => false,
+        }
+    }
+
+    /// Whether a row that the request wants is in conflict.
+    pub fn has_conflict(&self, classes: &Classes, blocked: &Blocked) -> bool
+        ensures { result ≡ list_any (held classes.now blocked.now) self.now }
+    {
+        let templates = blocked.templates.as_slice();
+        let test = InConflict { classes, blocked };
+        match self
+            .rows
+            .first_above(classes, blocked.space, templates, 0, &test)
+        {
+            None => false,
+            Some(_) => true,
+        }
+    }
+
+    /// The numbers of the first rows that the request may be given, as many as it asks for.
+    pub fn choose(
+        &self,
+        alloc: Global,
+        classes: &Classes,
+        blocked: &Blocked,
+    ) -> Result<Items<u64>, NoMemory>
+        ensures { IfOk result (λ ns. ns ≡ take blocked.now.most (offered_among classes.now blocked.now self.now)) }
+    {
+        let sought = Sought {
+            classes,
+            space: blocked.space,
+            templates: blocked.templates.as_slice(),
+        };
+        let test = Offered { classes, blocked };
+        let most = blocked.most as usize;
+        let numbers = numbers_found(alloc, &self.rows, &sought, 0, &test, most)?;
+        Ok(numbers)
+    }
+
+    /// How many rows the request may be given, up to so many.
+    pub fn count_available(&self, classes: &Classes, blocked: &Blocked, most: usize) -> usize
+        ensures { result ≡ length (take most (offered_among classes.now blocked.now self.now)) }
+    {
+        let sought = Sought {
+            classes,
+            space: blocked.space,
+            templates: blocked.templates.as_slice(),
+        };
+        let test = Offered { classes, blocked };
+        count_found(&self.rows, &sought, 0, &test, most)
+    }
+
+    /// Whether the row of this number may be given to the request.
+    pub fn may_be_given(&self, classes: &Classes, blocked: &Blocked, number: u64) -> bool
+        ensures { result ≡ has (offered_among classes.now blocked.now self.now) number }
+    {
+        match self.rows.get(number) {
+            None => false,
+            Some(row) => is_available(classes, blocked, row),
+        }
+    }
+
+    /// The entries of the first rows that a match set may still show, so many.
+    pub fn entries_shown(
+        &self,
+        alloc: Global,
+        classes: &Classes,
+        set: &MatchSet,
+        most: usize,
+    ) -> Result<Items<Entry>, NoMemory>
+        ensures { IfOk result (λ es. es ≡ map (λ row. row.entry) (take most (filter (shows classes.now set.now) self.now))) }
+    {
+        let sought = Sought {
+            classes,
+            space: set.space,
+            templates: std::slice::from_ref(&set.template),
+        };
+        let test = Shown { classes, set };
+        let entries = entries_found(alloc, &self.rows, &sought, set.cursor, &test, most)?;
+        Ok(entries)
+    }
+
+    /// How many rows a match set may still show, up to so many.
+    pub fn count_shown(&self, classes: &Classes, set: &MatchSet, most: usize) -> usize
+        ensures { result ≡ length (take most (filter (shows classes.now set.now) self.now)) }
+    {
+        let sought = Sought {
+            classes,
+            space: set.space,
+            templates: std::slice::from_ref(&set.template),
+        };
+        let test = Shown { classes, set };
+        count_found(&self.rows, &sought, set.cursor, &test, most)
+    }
+
+    /// The number of the last of the first rows that a match set may still show.
+    pub fn last_shown(&self, classes: &Classes, set: &MatchSet, most: usize) -> Option<u64>
+        ensures { result ≡ last_or None (map (λ row. row.number) (take most (filter (shows classes.now set.now) self.now))) }
+    {
+        let sought = Sought {
+            classes,
+            space: set.space,
+            templates: std::slice::from_ref(&set.template),
+        };
+        let test = Shown { classes, set };
+        last_found(&self.rows, &sought, set.cursor, &test, most)
+    }
+
+    /// Whether the transaction wrote or took a row there.
+    pub fn has_changed(&self, x: u64, space: u64) -> bool
+        ensures { result ≡ list_any (λ r. r.space == space && (calls r.writer x || calls r.taker x)) self.now }
+    {
+        let _ = self.rows.places();
+        let Some(numbers) = self.holders.get(&x) else {
+            return false;
+        };
+        match self.rows.first_named(
+            numbers,
+            0,
+            &ChangedBy {
+                transaction: x,
+                space,
+            },
+        ) {
+            None => false,
+            Some(_) => true,
+        }
+    }
+
+    /// Copies of the rows that a commit of the transaction publishes.
+    pub fn published(&self, alloc: Global, x: u64) -> Result<Vec<Row>, NoMemory>
+        ensures { IfOk result (λ v. v.items ≡ published x self.now) }
+    {
+        let Some(numbers) = self.holders.get(&x) else {
+            return Ok(Vec::new(alloc));
+        };
+        let copies = rows_named(alloc, &self.rows, numbers, &PublishedBy { transaction: x })?;
+        Ok(copies)
+    }
+
+    /// The entries of the rows of these numbers, in the order of the rows.
+    pub fn entries_of(&self, alloc: Global, numbers: &[u64]) -> Result<Items<Entry>, NoMemory>
+        ensures { IfOk result (λ es. es ≡ entries_among numbers.now self.now) }
+    {
+        let named = named_by(alloc, numbers)?;
+        let entries = entries_named(alloc, &self.rows, &named, &OneOf { numbers })?;
+        Ok(entries)
+    }
+
+    /// Copies of all rows. Only for what goes over all of them.
+    pub fn to_items(&self, alloc: Global) -> Result<Items<Row>, NoMemory>
+        ensures { IfOk result (λ rows. rows ≡ self.now) }
+    {
+        let copies = copies_of(alloc, self.rows.places())?;
+        Ok(Items::from_vec(copies))
+    }
+}
+
+/// A list that names these numbers.
+fn named_by(alloc: Global, numbers: &[u64]) -> Result<Numbers, NoMemory>
+    ensures { IfOk result (λ named. (n : ℕ) → has numbers.now n ≡ true → contains named n ≡ true) }
+{
+    let mut named = Numbers::new(alloc);
+    'numbers: for number in numbers {
+        named.add(*number)?;
+    }
+    Ok(named)
+}

@@ -1,0 +1,174 @@
+//! The rows of all spaces, found by hints. Contracts see them as a list, in rising order of their
+//! numbers.
+//!
+//! The fields are private. What there is to do with rows is a call: to append, to leave some out, to
+//! change some in place are here. Only appending, reading and taking takes memory.
+ghost use Rattle.std.specs.Prelude.{◌≡◌, ◌==◌, ◌++◌, ◌∷◌, [], not, map, filter, OnOk, OnErr};
+ghost use Rattle.jsp_model.specs.Lookup.{update, contains as has};
+ghost use Rattle.jsp_model.specs.Changes.{aborted, committed, release as released};
+ghost use Rattle.jsp_sight.specs.Rows.{row_ending, with_reader, taken_row};
+ghost use Rattle.jsp_index.specs.Numbered.{AreNumbered};
+
+use crate::NoMemory;
+use crate::changing::{Abort, Commit, Reading, Release, Taking};
+use crate::holding::{hold_all, hold_numbers};
+use crate::keyed::KeyedRows;
+use crate::revising::{clear_space, remove_all, revise_all, take_all};
+use jsp_model::{Row, Vote};
+use jsp_table::{Hints, add_hint};
+use std::alloc::Global;
+use std::collections::HashMap;
+use std::marker::Model;
+
+/// The rows of all spaces.
+#[derive(Drop)]
+pub struct HintedRows {
+    pub(crate) alloc: Global,
+    pub(crate) rows: KeyedRows,
+    /// The numbers of the rows that each transaction wrote, took or read. A list may name more.
+    pub(crate) holders: Hints,
+}
+
+impl Model for HintedRows {
+    ghost use Rattle.std.specs.Prelude.{List};
+    ghost use Rattle.jsp_model.specs.declared.state.Row.{Row};
+    ghost use Rattle.jsp_index.specs.Holding.{AreHeld};
+
+    ghost Value = { List Row };
+
+    ghost view = { λ a. a.rows };
+
+    ghost invariant = { λ a. AreHeld a.holders a.rows };
+}
+
+impl HintedRows {
+    /// No rows. The seed is for keys; clients aren't to know it.
+    pub fn new(alloc: Global, seed: u64) -> Self
+        ensures { result ≡ [] }
+    {
+        HintedRows {
+            alloc,
+            rows: KeyedRows::new(alloc, seed),
+            holders: HashMap::new(alloc),
+        }
+    }
+
+    // ---- append
+
+    /// Adds rows at the end, whole or not at all. Where memory is refused they stay with the caller.
+    pub fn append(&mut self, rows: &mut Vec<Row>) -> Result<(), NoMemory>
+        requires { AreNumbered (self.old ++ rows.old.items) }
+        ensures ok { OnOk result (self.new ≡ self.old ++ rows.old.items) }
+        ensures err { OnErr result (self.new ≡ self.old) }
+        ensures rows_stay { OnErr result (rows.new.items ≡ rows.old.items) }
+    {
+        hold_all(self.alloc, &mut self.holders, rows)?;
+        self.rows.append(rows)?;
+        Ok(())
+    }
+
+    /// Adds a row at the end, whole or not at all.
+    pub fn push(&mut self, row: Row) -> Result<(), NoMemory>
+        requires { AreNumbered (self.old ++ row ∷ []) }
+        ensures ok { OnOk result (self.new ≡ self.old ++ row ∷ []) }
+        ensures err { OnErr result (self.new ≡ self.old) }
+    {
+        let mut rows = Vec::new(self.alloc);
+        rows.push(row)?;
+        self.append(&mut rows)?;
+        Ok(())
+    }
+
+    // ---- leave out. Nothing here takes memory.
+
+    /// The row of this number goes.
+    pub fn remove(&mut self, number: u64)
+        ensures { self.new ≡ filter (λ r. not (r.number == number)) self.old }
+    {
+        self.rows.remove(number);
+    }
+
+    /// The rows of these numbers go.
+    pub fn remove_all(&mut self, numbers: &[u64])
+        ensures { self.new ≡ filter (λ r. not (has numbers.now r.number)) self.old }
+    {
+        remove_all(&mut self.rows, numbers);
+    }
+
+    /// The rows of a space go.
+    pub fn clear(&mut self, space: u64)
+        ensures { self.new ≡ filter (λ r. not (r.space == space)) self.old }
+    {
+        clear_space(&mut self.rows, space);
+    }
+
+    // ---- leave out and change. Nothing here takes memory.
+
+    /// The transaction aborts: the rows that it wrote go, and so do its marks.
+    pub fn abort(&mut self, x: u64)
+        ensures { self.new ≡ aborted x self.old }
+    {
+        let Some(numbers) = self.holders.remove(&x) else {
+            return;
+        };
+        revise_all(&mut self.rows, &numbers, &Abort { transaction: x });
+    }
+
+    /// The transaction commits: the rows that it took go, and so do its marks.
+    pub fn commit(&mut self, x: u64)
+        ensures { self.new ≡ committed x self.old }
+    {
+        let Some(numbers) = self.holders.remove(&x) else {
+            return;
+        };
+        revise_all(&mut self.rows, &numbers, &Commit { transaction: x });
+    }
+
+    // ---- change in place
+
+    /// Once a space has voted that nothing is changed, the transaction's read marks there go. Takes no
+    /// memory.
+    pub fn release(&mut self, vote: Vote, x: u64, space: u64)
+        ensures { self.new ≡ released vote x space self.old }
+    {
+        let Some(numbers) = self.holders.get(&x) else {
+            return;
+        };
+        revise_all(
+            &mut self.rows,
+            numbers,
+            &Release {
+                vote,
+                transaction: x,
+                space,
+            },
+        );
+    }
+
+    /// The transaction takes the rows of these numbers, whole or not at all.
+    pub fn take(&mut self, numbers: &[u64], x: u64) -> Result<(), NoMemory>
+        ensures ok { OnOk result (self.new ≡ map (taken_row x numbers.now) self.old) }
+        ensures err { OnErr result (self.new ≡ self.old) }
+    {
+        hold_numbers(self.alloc, &mut self.holders, x, numbers)?;
+        take_all(&mut self.rows, numbers, x);
+        Ok(())
+    }
+
+    /// The row of this number ends then. Takes no memory.
+    pub fn extend(&mut self, number: u64, end: u64)
+        ensures { self.new ≡ map (row_ending number end) self.old }
+    {
+        self.rows.set_end(number, end);
+    }
+
+    /// The transaction reads the row of this number, whole or not at all.
+    pub fn read(&mut self, number: u64, x: u64) -> Result<(), NoMemory>
+        ensures ok { OnOk result (self.new ≡ update (λ r. r.number == number) (with_reader x) self.old) }
+        ensures err { OnErr result (self.new ≡ self.old) }
+    {
+        add_hint(self.alloc, &mut self.holders, x, number)?;
+        self.rows.try_change(number, &Reading { transaction: x })?;
+        Ok(())
+    }
+}

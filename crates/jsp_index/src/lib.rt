@@ -1,0 +1,30 @@
+//! The rows of all spaces, found by lists that hint at where they are.
+//!
+//! [`HintedRows`] has the calls of a plain list of rows, and contracts see it as that list, in rising
+//! order of the rows' numbers. Under it are a table by number, lists of numbers by space, by class
+//! and by each value of a field, lists by transaction, and the ends of the rows as leases.
+//!
+//! A list of hints names at least each row that carries its key, and may name others, so it never
+//! decides: each row that is named gets the full test, and what is found first is the first of all
+//! rows that pass, as each contract says. Keys depend on a seed, so that who doesn't know it can't
+//! aim many values at one list. A search takes no memory, and what leaves rows out takes none.
+#![tactic(auto)]
+
+mod asking;
+mod changing;
+mod choosing;
+mod ends;
+mod finding;
+mod hinted;
+mod holding;
+mod keyed;
+mod keys;
+mod listing;
+mod naming;
+mod revising;
+mod rising;
+mod searching;
+mod walking;
+
+pub use hinted::HintedRows;
+pub use jsp_types::NoMemory;

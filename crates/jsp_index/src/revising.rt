@@ -1,0 +1,72 @@
+//! Several rows changed or left out, each by its number. Nothing here takes memory.
+ghost use Rattle.std.specs.Prelude.{◌≡◌, ◌==◌, false, not, if◌then◌else◌, filter, map, Some};
+ghost use Rattle.std.specs.List.{AllByRecursion, filter_map};
+ghost use Rattle.jsp_model.specs.declared.state.Row.{Row as OfRow};
+ghost use Rattle.jsp_model.specs.Lookup.{contains as has};
+ghost use Rattle.jsp_sight.specs.Rows.{taken_row};
+ghost use Rattle.jsp_table.specs.Numbers.{contains};
+ghost use Rattle.jsp_index.specs.Changing.{HasSameKeys, revised_by};
+
+use crate::asking::InSpace;
+use crate::changing::{Revision, Taking};
+use crate::keyed::KeyedRows;
+use jsp_model::Row;
+use jsp_table::{Change, Numbers};
+
+/// Revises the row of a number.
+fn revise<R: Revision + Change<Row>>(rows: &mut KeyedRows, number: u64, revision: &R)
+    requires { (r : OfRow) → HasSameKeys r (R.changed revision.now r) }
+    ensures { rows.new ≡ filter_map (λ r. if r.number == number then revised_by (R.is_gone revision.now) (R.changed revision.now) r else Some r) rows.old }
+{
+    let Some(row) = rows.get(number) else {
+        return;
+    };
+    if revision.goes(row) {
+        rows.remove(number);
+    } else {
+        rows.change(number, revision);
+    }
+}
+
+/// Revises the rows of these numbers, where a revision leaves all others as they are. So it revises
+/// all.
+pub(crate) fn revise_all<R: Revision + Change<Row>>(
+    rows: &mut KeyedRows,
+    numbers: &Numbers,
+    revision: &R,
+)
+    requires keys { (r : OfRow) → HasSameKeys r (R.changed revision.now r) }
+    requires named { AllByRecursion (λ (r : OfRow). contains numbers.now r.number ≡ false → revised_by (R.is_gone revision.now) (R.changed revision.now) r ≡ Some r) rows.old }
+    ensures { rows.new ≡ filter_map (revised_by (R.is_gone revision.now) (R.changed revision.now)) rows.old }
+{
+    'places: for place in 0..numbers.len() {
+        revise(rows, numbers.at(place), revision);
+    }
+}
+
+/// The rows of these numbers go.
+pub(crate) fn remove_all(rows: &mut KeyedRows, numbers: &[u64])
+    ensures { rows.new ≡ filter (λ r. not (has numbers.now r.number)) rows.old }
+{
+    'numbers: for number in numbers {
+        rows.remove(*number);
+    }
+}
+
+/// A transaction takes the rows of these numbers.
+pub(crate) fn take_all(rows: &mut KeyedRows, numbers: &[u64], x: u64)
+    ensures { rows.new ≡ map (taken_row x numbers.now) rows.old }
+{
+    'numbers: for number in numbers {
+        rows.change(*number, &Taking { transaction: x });
+    }
+}
+
+/// The rows of a space go.
+pub(crate) fn clear_space(rows: &mut KeyedRows, space: u64)
+    ensures { rows.new ≡ filter (λ r. not (r.space == space)) rows.old }
+{
+    'rows: while let Some(number) = rows.first_in(space) {
+        rows.remove(number);
+    }
+}

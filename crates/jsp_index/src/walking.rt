@@ -1,0 +1,133 @@
+//! The first rows that pass a test, so many of them, in their order.
+ghost use Rattle.std.specs.Prelude.{◌≡◌, true, filter, map, take, length, ◌++◌, ◌∷◌, [], None, IfOk, OnOk};
+ghost use Rattle.std.specs.List.{last_or};
+ghost use Rattle.jsp_model.specs.declared.state.Row.{Row as OfRow};
+ghost use Rattle.jsp_index.specs.Finding.{is_next, is_asked};
+ghost use Rattle.jsp_index.specs.Numbered.{AreNumbered};
+
+use crate::NoMemory;
+use crate::keyed::KeyedRows;
+use jsp_model::Row;
+use jsp_table::Test;
+use jsp_types::{Classes, Entry, Items, Template};
+use std::alloc::Global;
+
+/// Where a walk looks: in a space, for rows that are like one of the templates.
+#[derive(Drop)]
+pub(crate) struct Sought<'a> {
+    pub(crate) classes: &'a Classes,
+    pub(crate) space: u64,
+    pub(crate) templates: &'a [Template],
+}
+
+/// The numbers of the first rows above one that pass, so many.
+pub(crate) fn numbers_found<P: Test<Row>>(
+    alloc: Global,
+    rows: &KeyedRows,
+    sought: &Sought,
+    from: u64,
+    test: &P,
+    most: usize,
+) -> Result<Items<u64>, NoMemory>
+    requires { (r : OfRow) → P.is_passed test.now r ≡ true → is_asked sought.now.classes.now sought.now.space sought.now.templates.now r ≡ true }
+    ensures found { IfOk result (λ ns. ns ≡ map (λ r. r.number) (take most (filter (is_next (P.is_passed test.now) from) rows.now))) }
+    ensures numbered { AreNumbered rows.now }
+{
+    let _ = rows.places();
+    let mut numbers = Items::new(alloc);
+    let mut after = from;
+    'rows: for _count in 0..most {
+        let (classes, space, templates) = (sought.classes, sought.space, sought.templates);
+        let Some(row) = rows.first_above(classes, space, templates, after, test) else {
+            return Ok(numbers);
+        };
+        numbers.push(row.number)?;
+        after = row.number;
+    }
+    Ok(numbers)
+}
+
+/// The entries of the first rows above a number that pass, so many.
+pub(crate) fn entries_found<P: Test<Row>>(
+    alloc: Global,
+    rows: &KeyedRows,
+    sought: &Sought,
+    from: u64,
+    test: &P,
+    most: usize,
+) -> Result<Items<Entry>, NoMemory>
+    requires { (r : OfRow) → P.is_passed test.now r ≡ true → is_asked sought.now.classes.now sought.now.space sought.now.templates.now r ≡ true }
+    ensures found { IfOk result (λ es. es ≡ map (λ r. r.entry) (take most (filter (is_next (P.is_passed test.now) from) rows.now))) }
+    ensures numbered { AreNumbered rows.now }
+{
+    let _ = rows.places();
+    let mut entries = Items::new(alloc);
+    let mut after = from;
+    'rows: for _count in 0..most {
+        let (classes, space, templates) = (sought.classes, sought.space, sought.templates);
+        let Some(row) = rows.first_above(classes, space, templates, after, test) else {
+            return Ok(entries);
+        };
+        add_entry(&mut entries, row)?;
+        after = row.number;
+    }
+    Ok(entries)
+}
+
+/// Adds a copy of the row's entry.
+pub(crate) fn add_entry(entries: &mut Items<Entry>, row: &Row) -> Result<(), NoMemory>
+    ensures { OnOk result (entries.new ≡ entries.old ++ row.now.entry ∷ []) }
+{
+    entries.push(row.entry.clone()?)?;
+    Ok(())
+}
+
+/// How many rows above a number pass, up to so many.
+pub(crate) fn count_found<P: Test<Row>>(
+    rows: &KeyedRows,
+    sought: &Sought,
+    from: u64,
+    test: &P,
+    most: usize,
+) -> usize
+    requires { (r : OfRow) → P.is_passed test.now r ≡ true → is_asked sought.now.classes.now sought.now.space sought.now.templates.now r ≡ true }
+    ensures found { result ≡ length (take most (filter (is_next (P.is_passed test.now) from) rows.now)) }
+    ensures numbered { AreNumbered rows.now }
+{
+    let _ = rows.places();
+    let mut after = from;
+    'rows: for count in 0..most {
+        let (classes, space, templates) = (sought.classes, sought.space, sought.templates);
+        let Some(row) = rows.first_above(classes, space, templates, after, test) else {
+            return count;
+        };
+        after = row.number;
+    }
+    most
+}
+
+/// The number of the last of the first rows above a number that pass, so many.
+pub(crate) fn last_found<P: Test<Row>>(
+    rows: &KeyedRows,
+    sought: &Sought,
+    from: u64,
+    test: &P,
+    most: usize,
+) -> Option<u64>
+    requires { (r : OfRow) → P.is_passed test.now r ≡ true → is_asked sought.now.classes.now sought.now.space sought.now.templates.now r ≡ true }
+    ensures found { result ≡ last_or None (map (λ r. r.number) (take most (filter (is_next (P.is_passed test.now) from) rows.now))) }
+    ensures numbered { AreNumbered rows.now }
+{
+    let _ = rows.places();
+    let mut last = None;
+    let mut after = from;
+    'rows: for _count in 0..most {
+        let (classes, space, templates) = (sought.classes, sought.space, sought.templates);
+        let Some(row) = rows.first_above(classes, space, templates, after, test) else {
+            return last;
+        };
+        last = Some(row.number);
+        after = row.number;
+    }
+    last
+}

@@ -1,0 +1,18 @@
+use Rattle.std.proofs.Common.{ltb, rules}
+use Rattle.std.proofs.lemmas.List.Sorted.{IsPartitionPoint-from_clause, IsPartitionedBy-ltb}
+use Rattle.jsp_model.specs.declared.state.Outbox.{Outbox}
+use Rattle.jsp_outbox.proofs.Order.{sessions_rise}
+use Rattle.jsp_outbox.proofs.Finding.{searched_from, searched_none}
+use Rattle.jsp_outbox.proofs.find.first_from.Goals as goal
+
+pub returns-then-place-queues : goal.returns-then-place-queues
+returns-then-place-queues c =
+    let parted = IsPartitionedBy-ltb (λ (b : Outbox). b.session) c.args.queues.now c.args.session (sessions_rise c.args.queues.now c.requires) in
+    searched_from c.args.session c.partition_point-place.result c.args.queues.now
+    (IsPartitionPoint-from_clause (λ (b : Outbox). ltb b.session c.args.session) _ _ c.partition_point-place.ensures.partitioned parted (λ a r q k. search rules)) c.if-place-queues.true
+
+pub returns-else-place-queues : goal.returns-else-place-queues
+returns-else-place-queues c =
+    let parted = IsPartitionedBy-ltb (λ (b : Outbox). b.session) c.args.queues.now c.args.session (sessions_rise c.args.queues.now c.requires) in
+    searched_none c.args.session c.partition_point-place.result c.args.queues.now
+    (IsPartitionPoint-from_clause (λ (b : Outbox). ltb b.session c.args.session) _ _ c.partition_point-place.ensures.partitioned parted (λ a r q k. search rules)) c.if-place-queues.false

@@ -1,9 +1,0 @@
-use Rattle.std.proofs.Common.{◌≡◌, vec_len}
-use Rattle.jsp_state.specs.Outboxes.{before_all}
-use Rattle.jsp_state.proofs.outboxes.take_all_back.Given as goal
-
-abbrev pub invariant-posts : goal.invariant-posts
-invariant-posts l = before_all l.posts.items l.outboxes ≡ before_all l.initial.posts.items l.initial.outboxes
-
-abbrev pub decreases-posts : goal.decreases-posts
-decreases-posts l = vec_len l.posts

@@ -1,0 +1,16 @@
+//! The rows of all spaces as a program keeps them, which contracts see as the list of the definitions.
+//!
+//! `Rows` has private fields. What there is to do with rows is a call of one of four forms: append,
+//! leave some out, change some in place, find. The contract of each says by the plain list, in the
+//! order in which rows were written, what it leaves or answers (`specs/Rows.antt` of jsp_sight).
+//! Rows are found by hints (jsp_index), or each is looked at (`scanned`): `Keeping` says which, and
+//! no contract can tell. What adds and what marks rows is whole or not at all; only these, and what
+//! answers in lists, take memory.
+#![tactic(auto)]
+
+mod rows;
+mod scanned;
+#[cfg(test)]
+mod tests;
+
+pub use rows::{Keeping, Rows};

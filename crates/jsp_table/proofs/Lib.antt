@@ -1,0 +1,4 @@
+pub mod Rising
+pub mod Standing
+pub mod Finding
+pub mod Changing

@@ -1,0 +1,19 @@
+//! Things by rising number, and lists of numbers that hint at where they are.
+//!
+//! Contracts see a `Table` as the list of its things. One is found by its number in a binary search;
+//! a thing that goes leaves its place empty until more than half of the places are. `Numbers` are
+//! rising numbers, and `Hints` lists of them by key. A list of hints never decides what is found: it
+//! names at least what it has to, and `first_above` makes the full test on each thing that is named, so
+//! that the first which passes is the first of the whole list, as its contract says. Adding to a table is
+//! whole or not at all; a hint that stays behind where memory is refused does no harm. Removing takes
+//! no memory.
+#![tactic(auto)]
+
+mod hints;
+mod numbers;
+mod table;
+
+pub use hints::{Hints, add_hint, drop_hint};
+pub use numbers::Numbers;
+pub use std::alloc::AllocError as NoMemory;
+pub use table::{Change, Numbering, Table, Test, TryChange};
