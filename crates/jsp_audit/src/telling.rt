@@ -60,11 +60,5 @@ fn next_event(registration: &Registration) -> Result<Reply, NoMemory>
 fn registration_of(state: &Core, number: u64) -> Option<&Registration>
     ensures { option_copied result ≡ registration_in state.now number }
 {
-    find_registration(state.registrations.as_slice(), number)
-}
-
-fn find_registration(registrations: &[Registration], number: u64) -> Option<&Registration>
-    ensures { option_copied result ≡ find (λ r. r.number == number) registrations.now }
-{
-    registrations.iter().find(|r| r.number == number)
+    state.registrations.get(number)
 }

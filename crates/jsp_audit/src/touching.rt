@@ -5,7 +5,7 @@ ghost use Rattle.jsp_model.specs.Quiet.{are_quiet as all_quiet};
 ghost use Rattle.jsp_model.specs.Touches.{touches as touched, ask_touches as touched_by_ask, item_touches as touched_by_item, lease_touches as touched_by_lease, set_touches as touched_by_set, name_touches as touched_by_name};
 
 use jsp_core::{Core, LiveImage};
-use jsp_model::{Blocked, Joined, MatchSet, Registration, Step};
+use jsp_model::{Joined, MatchSet, Step};
 use jsp_state::{is_quiet, named, space_named, transaction_of};
 use jsp_types::{Items, NoMemory};
 use jsp_wire::Ask;
@@ -66,7 +66,7 @@ pub(crate) fn item_touches(alloc: Global, state: &Core, number: u64) -> Result<V
     ensures { IfOk result (λ v. v.items ≡ touched_by_item state.now number) }
 {
     let mut spaces = lease_touches(alloc, state, number)?;
-    let blocked = spaces_of_blocked(alloc, state.blocked.as_slice(), number)?;
+    let blocked = state.blocked.spaces_of(alloc, number)?;
     spaces.extend_from_slice(blocked.as_slice())?;
     Ok(spaces)
 }
@@ -118,32 +118,13 @@ fn lease_touches(alloc: Global, state: &Core, number: u64) -> Result<Vec<u64>, N
     ensures { IfOk result (λ v. v.items ≡ touched_by_lease state.now number) }
 {
     let mut spaces = state.rows.spaces_of(alloc, number)?;
-    let registrations = state.registrations.as_slice();
-    let hearing = spaces_of_registrations(alloc, registrations, number)?;
+    let hearing = state.registrations.spaces_of(alloc, number)?;
     spaces.extend_from_slice(hearing.as_slice())?;
     let shown = set_touches(alloc, state, number)?;
     spaces.extend_from_slice(shown.as_slice())?;
     let joined = joined_spaces(alloc, state, number)?;
     spaces.extend_from_slice(joined.as_slice())?;
     Ok(spaces)
-}
-
-fn spaces_of_registrations(
-    alloc: Global,
-    registrations: &[Registration],
-    number: u64,
-) -> Result<Vec<u64>, NoMemory>
-    ensures { IfOk result (λ v. v.items ≡ map (λ r. r.space) (filter (λ r. r.number == number) registrations.now)) }
-{
-    let named = registrations.iter().filter(|r| r.number == number);
-    named.map(|r| r.space).collect(alloc)
-}
-
-fn spaces_of_blocked(alloc: Global, blocked: &[Blocked], number: u64) -> Result<Vec<u64>, NoMemory>
-    ensures { IfOk result (λ v. v.items ≡ map (λ b. b.space) (filter (λ b. b.number == number) blocked.now)) }
-{
-    let named = blocked.iter().filter(|b| b.number == number);
-    named.map(|b| b.space).collect(alloc)
 }
 
 /// The space of the match set of this number.

@@ -2,10 +2,12 @@
 ghost use Rattle.std.specs.Prelude.{◌≡◌, IfOk, IsTrue};
 ghost use Rattle.jsp_model.specs.Limits.{are_outboxes};
 
-use jsp_model::{Blocked, Commit, MatchSet, Registration, Session, Space, State, Transaction};
+use jsp_model::{Commit, MatchSet, Session, Space, State, Transaction};
+use jsp_notify::Registrations;
 use jsp_outbox::Outboxes;
 use jsp_store::{Keeping, Rows};
 use jsp_types::{Classes, Items, NoMemory};
+use jsp_wait::Waiters;
 use std::alloc::Global;
 use std::marker::Model;
 
@@ -19,8 +21,8 @@ pub struct Core {
     pub time: u64,
     pub next_number: u64,
     pub rows: Rows,
-    pub registrations: Items<Registration>,
-    pub blocked: Items<Blocked>,
+    pub registrations: Registrations,
+    pub blocked: Waiters,
     pub transactions: Items<Transaction>,
     pub commits: Items<Commit>,
     pub sets: Items<MatchSet>,
@@ -64,8 +66,8 @@ impl Core {
             time,
             next_number,
             rows: Rows::of(alloc, rows, keeping)?,
-            registrations,
-            blocked,
+            registrations: Registrations::of(registrations),
+            blocked: Waiters::of(blocked),
             transactions,
             commits,
             sets,
@@ -85,8 +87,8 @@ impl Core {
             time: self.time,
             next_number: self.next_number,
             rows: self.rows.to_items()?,
-            registrations: copy_registrations(&self.registrations)?,
-            blocked: copy_blocked(alloc, &self.blocked)?,
+            registrations: self.registrations.to_items()?,
+            blocked: self.blocked.to_items(alloc)?,
             transactions: copy_transactions(&self.transactions)?,
             commits: copy_commits(&self.commits)?,
             sets: copy_sets(&self.sets)?,
@@ -111,28 +113,6 @@ fn copy_sessions(sessions: &Items<Session>) -> Result<Items<Session>, NoMemory>
     ensures { IfOk result (λ c. c ≡ sessions.now) }
 {
     sessions.clone()
-}
-
-fn copy_registrations(registrations: &Items<Registration>) -> Result<Items<Registration>, NoMemory>
-    ensures { IfOk result (λ c. c ≡ registrations.now) }
-{
-    registrations.clone()
-}
-
-fn copy_blocked(alloc: Global, blocked: &Items<Blocked>) -> Result<Items<Blocked>, NoMemory>
-    ensures { IfOk result (λ c. c ≡ blocked.now) }
-{
-    let mut copies = Items::new(alloc);
-    for request in blocked.as_slice() {
-        copies.push(copy_request(request)?)?;
-    }
-    Ok(copies)
-}
-
-fn copy_request(request: &Blocked) -> Result<Blocked, NoMemory>
-    ensures { IfOk result (λ c. c ≡ request.now) }
-{
-    request.clone()
 }
 
 fn copy_transactions(transactions: &Items<Transaction>) -> Result<Items<Transaction>, NoMemory>

@@ -8,7 +8,7 @@ use Rattle.jsp_model.specs.declared.state.Row.{Row}
 use Rattle.jsp_model.specs.Requests.{WriteRequest, place_of}
 use Rattle.jsp_model.specs.Refusals.{Tests, rows_in, is_used_up}
 use Rattle.jsp_model.specs.Changes.{new_row}
-use Rattle.jsp_transactions.specs.Owing.{owed}
+use Rattle.jsp_notify.specs.Owing.{owed}
 use Rattle.jsp_model.specs.declared.limits.TheConstants.{MOST_ROWS}
 
 abbrev pub granting_tests : State → WriteRequest → Tests

@@ -62,13 +62,7 @@ fn end_of(state: &Core, asked: &RowsAsked) -> u64
 pub fn blocked_named(state: &Core, number: u64) -> Option<&Blocked>
     ensures { option_copied result ≡ blocked_of state.now number }
 {
-    find_blocked(state.blocked.as_slice(), number)
-}
-
-fn find_blocked(blocked: &[Blocked], number: u64) -> Option<&Blocked>
-    ensures { option_copied result ≡ find (λ b. b.number == number) blocked.now }
-{
-    blocked.iter().find(|b| b.number == number)
+    state.blocked.get(number)
 }
 
 /// The request of this number waits no longer.
@@ -76,11 +70,5 @@ pub fn unblock(state: &mut Core, number: u64)
     ensures { state.new ≡ unblocked state.old number }
 {
     let blocked = &mut state.blocked;
-    drop_blocked(&mut blocked.items, number);
-}
-
-fn drop_blocked(blocked: &mut Vec<Blocked>, number: u64)
-    ensures { blocked.new.items ≡ filter (λ b. not (b.number == number)) blocked.old.items }
-{
-    blocked.retain(|b| !(b.number == number));
+    blocked.remove(number);
 }

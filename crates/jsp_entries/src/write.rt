@@ -9,7 +9,7 @@ ghost use Rattle.jsp_model.specs.Limits.{are_rising};
 ghost use Rattle.jsp_model.specs.Requests.{caller_of as transaction_named};
 ghost use Rattle.jsp_model.specs.Refusals.{write_tests, rows_in as count_in};
 ghost use Rattle.jsp_model.specs.Changes.{write};
-ghost use Rattle.jsp_transactions.specs.Owing.{owed};
+ghost use Rattle.jsp_notify.specs.Owing.{owed};
 ghost use Rattle.jsp_transactions.specs.Writing.{new_rows as written_rows};
 ghost use Rattle.jsp_state.specs.Fitting.{AllAccepted};
 ghost use Rattle.jsp_entries.specs.Asking.{write_of};
@@ -18,13 +18,14 @@ ghost use Rattle.jsp_model.specs.declared.limits.TheConstants.{LAST_NUMBER, LAST
 
 use jsp_core::Core;
 use jsp_lease::{granted, ms_of};
-use jsp_model::{MOST_ROWS, Registration, Row};
+use jsp_model::{MOST_ROWS, Row};
+use jsp_notify::Registrations;
 use jsp_reply::{Refusal, Reply};
 use jsp_state::{
     caller_of, entries_refusal, entry_of, is_used_up, place_of, rows_in, space_refusal,
 };
 use jsp_store::Rows;
-use jsp_transactions::{forgive_all, join, leave, owe_all};
+use jsp_transactions::{join, leave};
 use jsp_types::{Classes, Items, NoMemory, Raw};
 use std::alloc::Global;
 
@@ -169,13 +170,7 @@ fn add_rows(state: &mut Core, rows: Vec<Row>, caller: Option<u64>) -> Result<(),
     let count = rows.len() as u64;
     let stored = &mut state.rows;
     let registrations = &mut state.registrations;
-    store(
-        &state.classes,
-        stored,
-        &mut registrations.items,
-        rows,
-        caller,
-    )?;
+    store(&state.classes, stored, registrations, rows, caller)?;
     state.next_number += count;
     Ok(())
 }
@@ -183,7 +178,7 @@ fn add_rows(state: &mut Core, rows: Vec<Row>, caller: Option<u64>) -> Result<(),
 fn store(
     classes: &Classes,
     stored: &mut Rows,
-    registrations: &mut [Registration],
+    registrations: &mut Registrations,
     mut rows: Vec<Row>,
     caller: Option<u64>,
 ) -> Result<(), NoMemory>
@@ -192,11 +187,11 @@ fn store(
     ensures rows_stay { OnErr result (stored.new ≡ stored.old) }
     ensures owed_stay { OnErr result (registrations.new ≡ registrations.old) }
 {
-    owe_all(classes, registrations, rows.as_slice(), caller)?;
+    registrations.owe_all(classes, rows.as_slice(), caller)?;
     match stored.append(&mut rows) {
         Ok(()) => Ok(()),
         Err(e) => {
-            forgive_all(classes, registrations, rows.as_slice(), caller);
+            registrations.forgive_all(classes, rows.as_slice(), caller);
             Err(e)
         }
     }

@@ -1,5 +1,5 @@
--- Registrations that are made and told.
-use Rattle.std.specs.Prelude.{ℕ, ◌+◌, [], ◌∷◌, ◌++◌, drop}
+-- Registrations that are made.
+use Rattle.std.specs.Prelude.{ℕ, ◌+◌, [], ◌∷◌, ◌++◌}
 use Rattle.jsp_types.specs.Matching.{template_of}
 use Rattle.jsp_lease.specs.Granted.{ms_of}
 use Rattle.jsp_wire.specs.declared.ask.Notify.{Notify}
@@ -25,7 +25,3 @@ registered st s q =
 -- it is there, and its number is drawn
 abbrev pub with_registration : State → Registration → State
 with_registration st r = record st { registrations = st.registrations ++ r ∷ []; next_number = st.next_number + 1 }
-
--- its next event is told
-abbrev pub told_once : Registration → Registration
-told_once r = record r { owed = drop 1 r.owed; sequence = r.sequence + 1 }

@@ -7,7 +7,7 @@ ghost use Rattle.jsp_model.specs.Lookup.{update};
 ghost use Rattle.jsp_model.specs.Limits.{are_rising};
 ghost use Rattle.jsp_model.specs.Refusals.{own_tests};
 ghost use Rattle.jsp_model.specs.Changes.{register, tell as told};
-ghost use Rattle.jsp_grants.specs.Registering.{registered, with_registration, told_once};
+ghost use Rattle.jsp_grants.specs.Registering.{registered, with_registration};
 ghost use Rattle.jsp_model.specs.declared.limits.TheConstants.{LAST_NUMBER, LAST_TIME, MOST_REGISTRATIONS};
 
 use crate::granting::{LeaseAsked, refuse_grant};
@@ -37,7 +37,7 @@ pub fn refuse_notify(state: &Core, session: u64, id: u64, notify: &Notify) -> Op
 fn is_full(state: &Core) -> bool
     ensures { result ≡ nat_le MOST_REGISTRATIONS (length state.now.registrations) }
 {
-    MOST_REGISTRATIONS <= state.registrations.as_slice().len()
+    MOST_REGISTRATIONS <= state.registrations.len()
 }
 
 /// Registers the session for events, whole or not at all. The space joins its transaction.
@@ -111,38 +111,5 @@ pub fn tell(state: &mut Core, number: u64)
 {
     let below = state.next_number;
     let registrations = &mut state.registrations;
-    tell_one(&mut registrations.items, below, number);
-}
-
-fn tell_one(registrations: &mut [Registration], below: u64, number: u64)
-    requires rising { IsTrue (are_rising 0 below (map (λ r. r.number) registrations.old)) }
-    requires sequences { IsTrue (list_all (λ r. nat_le (r.sequence + 1) (2 ^ 63)) registrations.old) }
-    ensures { registrations.new ≡ update (λ r. r.number == number) told_once registrations.old }
-{
-    if let Some(place) = place_of_registration(registrations, number) {
-        tell_next(&mut registrations[place]);
-    }
-}
-
-fn place_of_registration(registrations: &[Registration], number: u64) -> Option<usize>
-    ensures { result ≡ position (λ r. r.number == number) registrations.now }
-{
-    registrations.iter().position(|r| r.number == number)
-}
-
-fn tell_next(registration: &mut Registration)
-    requires { registration.old.sequence < 2 ^ 63 }
-    ensures { registration.new ≡ told_once registration.old }
-{
-    let owed = &mut registration.owed;
-    drop_first(&mut owed.items);
-    registration.sequence += 1;
-}
-
-fn drop_first(numbers: &mut Vec<u64>)
-    ensures { numbers.new.items ≡ drop 1 numbers.old.items }
-{
-    if !numbers.is_empty() {
-        let _first = numbers.remove(0);
-    }
+    registrations.tell(below, number);
 }

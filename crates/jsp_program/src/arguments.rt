@@ -12,6 +12,9 @@ pub(crate) const NAMES: &str = "NAME";
 /// The id of the flag that asks for a replay.
 pub(crate) const AUDIT: &str = "audit";
 
+/// The id of the flag that asks for rows to be looked at one by one.
+pub(crate) const SCAN: &str = "scan";
+
 /// The id of the address to listen on.
 pub(crate) const ADDRESS: &str = "ADDR";
 
@@ -47,9 +50,14 @@ fn script<'a>(alloc: Global) -> Result<Command<'a>, AllocError> {
         .long(AUDIT)
         .help("Replays the run before anything is printed, and compares it with what was sent")
         .action(ArgAction::SetTrue);
+    let scan = Arg::new(alloc, SCAN)
+        .long(SCAN)
+        .help("Looks at each entry in every search, which is slower and answers the same")
+        .action(ArgAction::SetTrue);
     Command::new(alloc, "script")
         .about("Runs the script on standard input and prints each answer")
         .arg(audit)?
+        .arg(scan)?
         .arg(names(alloc))
 }
 

@@ -1,19 +1,19 @@
 //! The command `jsp`: reads its arguments and hands the work to jsp_serve.
 //!
 //! `jsp script NAME..` runs the script on standard input over the spaces NAME.. and prints each
-//! answer; with `--audit` it replays the run first, and compares it with what was sent. `jsp listen
-//! ADDR NAME..` serves clients over TCP. Both end with status 0, also after help, with 2 where the
+//! answer; with `--audit` it replays the run first, and compares it with what was sent, and with
+//! `--scan` it looks at each entry in every search. `jsp listen ADDR NAME..` serves clients over TCP. Both end with status 0, also after help, with 2 where the
 //! arguments can't be used, and else with 1 after the first fault met.
 #![tactic(auto)]
 
 mod arguments;
 mod listen;
 
-use arguments::{AUDIT, LISTEN, NAMES, command};
+use arguments::{AUDIT, LISTEN, NAMES, SCAN, command};
 use clap::ArgMatches;
 use clap::error::{Error, ErrorKind};
 use jsp_rows::Config;
-use jsp_serve::script;
+use jsp_serve::{Options, script};
 use jsp_types::{Items, NoMemory, Text};
 use listen::listen;
 use std::alloc::Global;
@@ -48,12 +48,15 @@ fn main(rt: HostRuntime) -> io::Result<ExitCode> {
 }
 
 fn run_script(rt: &HostRuntime, config: &Config, given: &ArgMatches<'_>) -> ExitCode {
-    let audits = given.get_flag(AUDIT);
+    let options = Options {
+        audits: given.get_flag(AUDIT),
+        scans: given.get_flag(SCAN),
+    };
     let (mut input, mut out, mut faults) = (rt.stdin(), rt.stdout(), rt.stderr());
     let ending = script(
         rt.alloc(),
         config,
-        audits,
+        options,
         &mut input,
         &mut out,
         &mut faults,

@@ -1,5 +1,6 @@
--- Each waiting request asks for at least one row, if each was asked so.
+-- What each waiting request is over a step, if each was so and each new one is. So each asks for at least one row, if it was asked so.
 use Rattle.std.proofs.Common.{◌≡◌, sym, subst, ℕ, ℤ, ◌+◌, ◌≤◌, List, [], ◌∷◌, true, Option, Some, None, is_some, nat_le}
+use Rattle.std.specs.Prelude.{IfSome}
 use Rattle.std.specs.Option.{option_map_or}
 use Rattle.std.proofs.lemmas.Bool.{leb-true}
 use Rattle.jsp_types.specs.Tests.{first_that}
@@ -20,107 +21,129 @@ use Rattle.jsp_model.specs.Refusals.{refusal, renew_tests, lease_tests}
 use Rattle.jsp_model.specs.Requests.{WriteRequest, RowRequest, one_entry, all_entries, one_row, many_rows, rows_asked, as_blocked, would_block, caller_of, place_of}
 use Rattle.jsp_model.specs.Changes.{join, owe, add_row, new_row, write, give, block, give_or_block, close, forget, committed, published, commit, abort, cast, remove, extend, renew, cancel, renew_one, cancel_one, accepted}
 use Rattle.jsp_model.specs.Steps.{after_ask, is_too_long, after_grant, next}
-use Rattle.jsp_laws.proofs.Lists.{each_filter, each_append, fold_keeps}
+use Rattle.jsp_laws.proofs.Lists.{Each, each_filter, each_append, fold_keeps}
 use Rattle.jsp_quiet.specs.Quieting.{asks_for_some, AllAskForSome}
 use Rattle.jsp_quiet.proofs.Spaces.{joining}
 use Rattle.jsp_quiet.proofs.Placed.{choose}
 
+-- each waiting request is so
+abbrev AllBlocked : (Blocked → Type 0) → State → Type 0
+AllBlocked P st = Each P st.blocked
+
+-- a request for rows that the step asks is so, if it waits
+abbrev pub Asked : (Blocked → Type 0) → State → Step → Type 0
+Asked P st (step.Ask s asked ns) = IfSome (rows_asked asked.ask) (λ q. P (as_blocked st s asked.id q))
+Asked P st _ = Unit {0}
+
+blocked_join : (P : Blocked → Type 0) (st : State) (o : Option ℕ) (space : ℕ) → AllBlocked P st → AllBlocked P (join st o space)
+blocked_join P st o space h = subst (AllBlocked P) (sym (joining st o space).is) h
+
+blocked_remove : (P : Blocked → Type 0) (st : State) (r : Rank) (n : ℕ) → AllBlocked P st → AllBlocked P (remove st r n)
+blocked_remove P st rank.Entry n h = h
+blocked_remove P st rank.Registration n h = h
+blocked_remove P st rank.Transaction n h = each_filter P _ st.blocked h
+blocked_remove P st rank.Blocked n h = each_filter P _ st.blocked h
+blocked_remove P st rank.MatchSet n h = h
+
+blocked_extend : (P : Blocked → Type 0) (st : State) (end : ℕ) (r : Rank) (n : ℕ) → AllBlocked P st → AllBlocked P (extend st end r n)
+blocked_extend P st end rank.Entry n h = h
+blocked_extend P st end rank.Registration n h = h
+blocked_extend P st end rank.Transaction n h = h
+blocked_extend P st end rank.Blocked n h = h
+blocked_extend P st end rank.MatchSet n h = h
+
+blocked_renew : (P : Blocked → Type 0) (st : State) (lease ms : ℤ) → AllBlocked P st → AllBlocked P (renew st lease ms)
+blocked_renew P st lease ms h = go (rank_of st (named lease))
+  where
+    go : (o : Option Rank) → AllBlocked P (option_map_or (λ r. extend st (st.time + ms_of ms) r (named lease)) o st)
+    go None = h
+    go (Some r) = blocked_extend P st _ r (named lease) h
+
+blocked_cancel : (P : Blocked → Type 0) (st : State) (lease : ℤ) → AllBlocked P st → AllBlocked P (cancel st lease)
+blocked_cancel P st lease h = go (rank_of st (named lease))
+  where
+    go : (o : Option Rank) → AllBlocked P (option_map_or (λ r. remove st r (named lease)) o st)
+    go None = h
+    go (Some r) = blocked_remove P st r (named lease) h
+
+blocked_write : (P : Blocked → Type 0) (st : State) (w : WriteRequest) → AllBlocked P st → AllBlocked P (write st w)
+blocked_write P st w h = fold_keeps (AllBlocked P) (λ b raw. add_row b (new_row b w raw)) (λ b raw k. k) w.entries (join st (caller_of w.txn) (place_of st w.space)) (blocked_join P st (caller_of w.txn) (place_of st w.space) h)
+
+blocked_seek : (P : Blocked → Type 0) (st : State) (s id : ℕ) (q : RowRequest) (ns : List ℕ) → P (as_blocked st s id q) → AllBlocked P st → AllBlocked P (give_or_block st s id q ns)
+blocked_seek P st s id q ns p h =
+    let b = as_blocked st s id q in
+    let joined = join st (caller_of q.txn) (place_of st q.space) in
+    let k : AllBlocked P joined = blocked_join P st (caller_of q.txn) (place_of st q.space) h in
+    choose (AllBlocked P) (would_block st s id q) (block joined b) (give joined b ns) (each_append P joined.blocked (b ∷ []) k (p, tt)) k
+
+blocked_accepted : (P : Blocked → Type 0) (st : State) (s id : ℕ) (ns : List ℕ) (a : Ask) → IfSome (rows_asked a) (λ q. P (as_blocked st s id q)) → AllBlocked P st → AllBlocked P (accepted st s id ns a)
+blocked_accepted P st s id ns (ask.Write w) p h = blocked_write P st (one_entry w) h
+blocked_accepted P st s id ns (ask.Read q) p h = blocked_seek P st s id (one_row form.Read q) ns p h
+blocked_accepted P st s id ns (ask.ReadIf q) p h = blocked_seek P st s id (one_row form.ReadIf q) ns p h
+blocked_accepted P st s id ns (ask.Take q) p h = blocked_seek P st s id (one_row form.Take q) ns p h
+blocked_accepted P st s id ns (ask.TakeIf q) p h = blocked_seek P st s id (one_row form.TakeIf q) ns p h
+blocked_accepted P st s id ns (ask.TakeMany q) p h = blocked_seek P st s id (many_rows q) ns p h
+blocked_accepted P st s id ns (ask.WriteAll w) p h = blocked_write P st (all_entries w) h
+blocked_accepted P st s id ns (ask.Notify q) p h = blocked_join P st (caller_of q.txn) (place_of st q.space) h
+blocked_accepted P st s id ns (ask.Contents q) p h = blocked_join P st (caller_of q.txn) (place_of st q.space) h
+blocked_accepted P st s id ns (ask.Renew lease ms) p h = blocked_renew P st lease ms h
+blocked_accepted P st s id ns (ask.Cancel lease) p h = blocked_cancel P st lease h
+blocked_accepted P st s id ns (ask.RenewAll leases) p h = fold_keeps (AllBlocked P) renew_one (λ b l k. choose (AllBlocked P) (is_some (first_that (renew_tests b l.0 l.1))) b (renew b l.0 l.1) k (blocked_renew P b l.0 l.1 k)) leases st h
+blocked_accepted P st s id ns (ask.CancelAll leases) p h = fold_keeps (AllBlocked P) cancel_one (λ b l k. choose (AllBlocked P) (is_some (first_that (lease_tests b l))) b (cancel b l) k (blocked_cancel P b l k)) leases st h
+blocked_accepted P st s id ns (ask.Commit x) p h = each_filter P _ st.blocked h
+blocked_accepted P st s id ns (ask.Abort x) p h = each_filter P _ st.blocked h
+blocked_accepted P st s id ns (ask.Reset space) p h = each_filter P _ st.blocked h
+blocked_accepted P st s id ns ask.Bye p h = each_filter P _ st.blocked h
+blocked_accepted P st s id ns (ask.Declare d) p h = h
+blocked_accepted P st s id ns (ask.Txn lease) p h = h
+blocked_accepted P st s id ns (ask.State x) p h = h
+blocked_accepted P st s id ns ask.Spaces p h = h
+blocked_accepted P st s id ns (ask.Hello v) p h = h
+blocked_accepted P st s id ns (ask.Next set most) p h = h
+blocked_accepted P st s id ns (ask.CloseSet set) p h = h
+
+blocked_asked : (P : Blocked → Type 0) (st : State) (s id : ℕ) (ns : List ℕ) (a : Ask) (o : Option Refusal) → IfSome (rows_asked a) (λ q. P (as_blocked st s id q)) → AllBlocked P st → AllBlocked P (after_ask st s id ns a o)
+blocked_asked P st s id ns a None p h = blocked_accepted P st s id ns a p h
+blocked_asked P st s id ns a (Some why) p h = h
+
+blocked_granted : (P : Blocked → Type 0) (st : State) (n : ℕ) (ns : List ℕ) (o : Option Blocked) → AllBlocked P st → AllBlocked P (after_grant st n ns o)
+blocked_granted P st n ns None h = h
+blocked_granted P st n ns (Some b) h = each_filter P _ st.blocked h
+
+blocked_cast : (P : Blocked → Type 0) (st : State) (x : ℕ) (o : Option Joined) → AllBlocked P st → AllBlocked P (option_map_or (cast st x) o st)
+blocked_cast P st x None h = h
+blocked_cast P st x (Some j) h = h
+
+blocked_commit : (P : Blocked → Type 0) (st : State) (x : ℕ) → AllBlocked P st → AllBlocked P (commit st x)
+blocked_commit P st x h = fold_keeps (AllBlocked P) (owe None) (λ b r k. k) (published x st.rows) (record (forget st x) { rows = committed x st.rows }) (each_filter P _ st.blocked h)
+
+pub blocked_step : (P : Blocked → Type 0) (st : State) (act : Step) → Asked P st act → AllBlocked P st → AllBlocked P (next st act)
+unfolding next
+blocked_step P st (step.Ask s a ns) p h = blocked_asked P st s a.id ns a.ask (refusal st s a.id a.ask) p h
+blocked_step P st (step.Open s) p h = h
+blocked_step P st (step.Shut s) p h = each_filter P _ st.blocked h
+blocked_step P st (step.Clock t) p h = h
+blocked_step P st (step.Fault s id why) p h = choose (AllBlocked P) (is_too_long why) (close st s) st (each_filter P _ st.blocked h) h
+blocked_step P st (step.Grant n ns) p h = blocked_granted P st n ns (blocked_of st n) h
+blocked_step P st (step.Empty n) p h = each_filter P _ st.blocked h
+blocked_step P st (step.Tell n) p h = h
+blocked_step P st (step.Due item) p h = blocked_remove P st item.rank item.number h
+blocked_step P st (step.Vote x space) p h = blocked_cast P st x (joined_at st x space) h
+blocked_step P st (step.Decide x c) p h = choose (AllBlocked P) c (commit st x) (abort st x) (blocked_commit P st x h) (each_filter P _ st.blocked h)
+blocked_step P st (step.HandOut s n) p h = h
+
+-- ---- requests for at least one row
+
 abbrev AsksSome : Blocked → Type 0
 AsksSome b = 1 ≤ b.most
 
-join_asking : (st : State) (o : Option ℕ) (space : ℕ) → AllAskForSome st → AllAskForSome (join st o space)
-join_asking st o space h = subst AllAskForSome (sym (joining st o space).is) h
+some_asked : (st : State) (s id : ℕ) (o : Option RowRequest) → option_map_or (λ q. nat_le 1 q.most) o true ≡ true → IfSome o (λ q. AsksSome (as_blocked st s id q))
+some_asked st s id None e = tt
+some_asked st s id (Some q) e = leb-true 1 q.most e
 
-remove_asking : (st : State) (r : Rank) (n : ℕ) → AllAskForSome st → AllAskForSome (remove st r n)
-remove_asking st rank.Entry n h = h
-remove_asking st rank.Registration n h = h
-remove_asking st rank.Transaction n h = each_filter AsksSome _ st.blocked h
-remove_asking st rank.Blocked n h = each_filter AsksSome _ st.blocked h
-remove_asking st rank.MatchSet n h = h
-
-extend_asking : (st : State) (end : ℕ) (r : Rank) (n : ℕ) → AllAskForSome st → AllAskForSome (extend st end r n)
-extend_asking st end rank.Entry n h = h
-extend_asking st end rank.Registration n h = h
-extend_asking st end rank.Transaction n h = h
-extend_asking st end rank.Blocked n h = h
-extend_asking st end rank.MatchSet n h = h
-
-renew_asking : (st : State) (lease ms : ℤ) → AllAskForSome st → AllAskForSome (renew st lease ms)
-renew_asking st lease ms h = go (rank_of st (named lease))
-  where
-    go : (o : Option Rank) → AllAskForSome (option_map_or (λ r. extend st (st.time + ms_of ms) r (named lease)) o st)
-    go None = h
-    go (Some r) = extend_asking st _ r (named lease) h
-
-cancel_asking : (st : State) (lease : ℤ) → AllAskForSome st → AllAskForSome (cancel st lease)
-cancel_asking st lease h = go (rank_of st (named lease))
-  where
-    go : (o : Option Rank) → AllAskForSome (option_map_or (λ r. remove st r (named lease)) o st)
-    go None = h
-    go (Some r) = remove_asking st r (named lease) h
-
-write_asking : (st : State) (w : WriteRequest) → AllAskForSome st → AllAskForSome (write st w)
-write_asking st w h = fold_keeps AllAskForSome (λ b raw. add_row b (new_row b w raw)) (λ b raw k. k) w.entries (join st (caller_of w.txn) (place_of st w.space)) (join_asking st (caller_of w.txn) (place_of st w.space) h)
-
-seek_asking : (st : State) (s id : ℕ) (q : RowRequest) (ns : List ℕ) → 1 ≤ q.most → AllAskForSome st → AllAskForSome (give_or_block st s id q ns)
-seek_asking st s id q ns m h =
-    let b = as_blocked st s id q in
-    let joined = join st (caller_of q.txn) (place_of st q.space) in
-    let k : AllAskForSome joined = join_asking st (caller_of q.txn) (place_of st q.space) h in
-    choose AllAskForSome (would_block st s id q) (block joined b) (give joined b ns) (each_append AsksSome joined.blocked (b ∷ []) k (m, tt)) k
-
-accepted_asking : (st : State) (s id : ℕ) (ns : List ℕ) (a : Ask) → option_map_or (λ q. nat_le 1 q.most) (rows_asked a) true ≡ true → AllAskForSome st → AllAskForSome (accepted st s id ns a)
-accepted_asking st s id ns (ask.Write w) e h = write_asking st (one_entry w) h
-accepted_asking st s id ns (ask.Read q) e h = seek_asking st s id (one_row form.Read q) ns (leb-true 1 1 e) h
-accepted_asking st s id ns (ask.ReadIf q) e h = seek_asking st s id (one_row form.ReadIf q) ns (leb-true 1 1 e) h
-accepted_asking st s id ns (ask.Take q) e h = seek_asking st s id (one_row form.Take q) ns (leb-true 1 1 e) h
-accepted_asking st s id ns (ask.TakeIf q) e h = seek_asking st s id (one_row form.TakeIf q) ns (leb-true 1 1 e) h
-accepted_asking st s id ns (ask.TakeMany q) e h = seek_asking st s id (many_rows q) ns (leb-true 1 q.most e) h
-accepted_asking st s id ns (ask.WriteAll w) e h = write_asking st (all_entries w) h
-accepted_asking st s id ns (ask.Notify q) e h = join_asking st (caller_of q.txn) (place_of st q.space) h
-accepted_asking st s id ns (ask.Contents q) e h = join_asking st (caller_of q.txn) (place_of st q.space) h
-accepted_asking st s id ns (ask.Renew lease ms) e h = renew_asking st lease ms h
-accepted_asking st s id ns (ask.Cancel lease) e h = cancel_asking st lease h
-accepted_asking st s id ns (ask.RenewAll leases) e h = fold_keeps AllAskForSome renew_one (λ b l k. choose AllAskForSome (is_some (first_that (renew_tests b l.0 l.1))) b (renew b l.0 l.1) k (renew_asking b l.0 l.1 k)) leases st h
-accepted_asking st s id ns (ask.CancelAll leases) e h = fold_keeps AllAskForSome cancel_one (λ b l k. choose AllAskForSome (is_some (first_that (lease_tests b l))) b (cancel b l) k (cancel_asking b l k)) leases st h
-accepted_asking st s id ns (ask.Commit x) e h = each_filter AsksSome _ st.blocked h
-accepted_asking st s id ns (ask.Abort x) e h = each_filter AsksSome _ st.blocked h
-accepted_asking st s id ns (ask.Reset space) e h = each_filter AsksSome _ st.blocked h
-accepted_asking st s id ns ask.Bye e h = each_filter AsksSome _ st.blocked h
-accepted_asking st s id ns (ask.Declare d) e h = h
-accepted_asking st s id ns (ask.Txn lease) e h = h
-accepted_asking st s id ns (ask.State x) e h = h
-accepted_asking st s id ns ask.Spaces e h = h
-accepted_asking st s id ns (ask.Hello v) e h = h
-accepted_asking st s id ns (ask.Next set most) e h = h
-accepted_asking st s id ns (ask.CloseSet set) e h = h
-
-asked_asking : (st : State) (s id : ℕ) (ns : List ℕ) (a : Ask) (o : Option Refusal) → option_map_or (λ q. nat_le 1 q.most) (rows_asked a) true ≡ true → AllAskForSome st → AllAskForSome (after_ask st s id ns a o)
-asked_asking st s id ns a None e h = accepted_asking st s id ns a e h
-asked_asking st s id ns a (Some why) e h = h
-
-granted_asking : (st : State) (n : ℕ) (ns : List ℕ) (o : Option Blocked) → AllAskForSome st → AllAskForSome (after_grant st n ns o)
-granted_asking st n ns None h = h
-granted_asking st n ns (Some b) h = each_filter AsksSome _ st.blocked h
-
-cast_asking : (st : State) (x : ℕ) (o : Option Joined) → AllAskForSome st → AllAskForSome (option_map_or (cast st x) o st)
-cast_asking st x None h = h
-cast_asking st x (Some j) h = h
-
-commit_asking : (st : State) (x : ℕ) → AllAskForSome st → AllAskForSome (commit st x)
-commit_asking st x h = fold_keeps AllAskForSome (owe None) (λ b r k. k) (published x st.rows) (record (forget st x) { rows = committed x st.rows }) (each_filter AsksSome _ st.blocked h)
+asked_some : (st : State) (act : Step) → asks_for_some act ≡ true → Asked AsksSome st act
+asked_some st (step.Ask s a ns) e = some_asked st s a.id (rows_asked a.ask) e
+asked_some st _ e = tt
 
 pub asking_stays : (st : State) (act : Step) → asks_for_some act ≡ true → AllAskForSome st → AllAskForSome (next st act)
-unfolding next
-asking_stays st (step.Ask s a ns) e h = asked_asking st s a.id ns a.ask (refusal st s a.id a.ask) e h
-asking_stays st (step.Open s) e h = h
-asking_stays st (step.Shut s) e h = each_filter AsksSome _ st.blocked h
-asking_stays st (step.Clock t) e h = h
-asking_stays st (step.Fault s id why) e h = choose AllAskForSome (is_too_long why) (close st s) st (each_filter AsksSome _ st.blocked h) h
-asking_stays st (step.Grant n ns) e h = granted_asking st n ns (blocked_of st n) h
-asking_stays st (step.Empty n) e h = each_filter AsksSome _ st.blocked h
-asking_stays st (step.Tell n) e h = h
-asking_stays st (step.Due item) e h = remove_asking st item.rank item.number h
-asking_stays st (step.Vote x space) e h = cast_asking st x (joined_at st x space) h
-asking_stays st (step.Decide x c) e h = choose AllAskForSome c (commit st x) (abort st x) (commit_asking st x h) (each_filter AsksSome _ st.blocked h)
-asking_stays st (step.HandOut s n) e h = h
+asking_stays st act e h = blocked_step AsksSome st act (asked_some st act e) h

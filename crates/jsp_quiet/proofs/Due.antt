@@ -34,6 +34,7 @@ use Rattle.jsp_laws.proofs.Lists.{Each, each_weaker, each_map, each_touched, eac
 use Rattle.jsp_laws.proofs.Made.{Failed, all_failed}
 use Rattle.jsp_quiet.specs.Steady.{IsSteady}
 use Rattle.jsp_quiet.specs.Quieting.{is_at_once, ends_at_once, can_make_due}
+use Rattle.jsp_quiet.proofs.Lists.{each_parts}
 use Rattle.jsp_quiet.proofs.Placed.{choose}
 use Rattle.jsp_quiet.proofs.Ends.{Standing, NoneOver, over_close, over_unblock, over_join, over_write, over_give, over_block, over_register, over_open_set, over_begin, over_turn, over_ask_commit, over_abort, over_commit, over_cast, over_reset, over_remove, over_extend}
 
@@ -54,10 +55,6 @@ over_none t (x ∷ xs) (h, hs) = go (nat_le x.end t) refl (over_none t xs hs)
     go : (b : Bool) → nat_le x.end t ≡ b → first_item (over_by t xs) ≡ None → first_item (cond b (x ∷ over_by t xs) (over_by t xs)) ≡ None
     go true k ih = let w : x.end ≤ t = leb-true x.end t k in absurd (omega (arith, w, h))
     go false k ih = ih
-
-each_parts : {A : Type 0} (P : A → Type 0) (xs ys : List A) → Each P (xs ++ ys) → Each P xs × Each P ys
-each_parts P [] ys h = (tt, h)
-each_parts P (x ∷ xs) ys (h, hs) = let parts = each_parts P xs ys hs in ((h, parts.0), parts.1)
 
 each_under : {A B : Type 0} (P : B → Type 0) (f : A → B) (xs : List A) → Each P (map f xs) → Each (λ x. P (f x)) xs
 each_under P f [] h = tt

@@ -1,5 +1,5 @@
 -- Lists: what filtering sees of a list that changed elsewhere.
-use Rattle.std.proofs.Common.{◌≡◌, refl, sym, ap, ◌∙◌, List, [], ◌∷◌, ◌++◌, map, Bool, true, false, cond, ◌||◌, ◌&&◌, filter, flat_map, true≢false}
+use Rattle.std.proofs.Common.{◌≡◌, refl, sym, ap, ◌∙◌, List, [], ◌∷◌, ◌++◌, map, Bool, true, false, cond, ◌||◌, ◌&&◌, filter, flat_map, true≢false, append-nil}
 use Rattle.std.specs.List.{list_any, list_all}
 use Rattle.std.proofs.lemmas.Bool.{and_parts, and_from}
 use Rattle.std.proofs.lemmas.List.Elements.{filter-append}
@@ -76,6 +76,13 @@ flat_alike {A = A} q f (x ∷ xs) (h, hs) = filter-append q (f x) (flat_map f xs
     go true = refl
     go false = refl
 
+filter_none : {A : Type 0} (q : A → Bool) (xs : List A) → Each (λ x. q x ≡ false) xs → filter q xs ≡ []
+filter_none q [] h = refl
+filter_none q (x ∷ xs) (h, hs) = rw h (filter_none q xs hs)
+
+pub added_alike : {A : Type 0} (q : A → Bool) (xs ys : List A) → Each (λ y. q y ≡ false) ys → filter q (xs ++ ys) ≡ filter q xs
+added_alike q xs ys h = filter-append q xs ys ∙ rw (filter_none q ys h) (append-nil (filter q xs))
+
 -- ---- what all pass
 
 pub all_updated : {A : Type 0} (f t : A → Bool) (g : A → A) → ((x : A) → t x ≡ true → f x ≡ true → f (g x) ≡ true) → (xs : List A) → list_all f xs ≡ true → list_all f (update t g xs) ≡ true
@@ -93,3 +100,9 @@ all_pushed f [] y k h = rw k refl
 all_pushed f (x ∷ xs) y k h =
     let parts : (f x ≡ true) × (list_all f xs ≡ true) = and_parts (f x) (list_all f xs) h in
     and_from (f x) (list_all f (xs ++ y ∷ [])) parts.0 (all_pushed f xs y k parts.1)
+
+-- ---- each of two lists
+
+pub each_parts : {A : Type 0} (P : A → Type 0) (xs ys : List A) → Each P (xs ++ ys) → Each P xs × Each P ys
+each_parts P [] ys h = (tt, h)
+each_parts P (x ∷ xs) ys (h, hs) = let parts = each_parts P xs ys hs in ((h, parts.0), parts.1)

@@ -1,5 +1,5 @@
 -- What a change elsewhere leaves of a space.
-use Rattle.std.proofs.Common.{◌≡◌, refl, sym, ap, ◌∙◌, subst, ℕ, ◌+◌, List, [], ◌∷◌, ◌++◌, Bool, true, false, not, cond, ◌&&◌, ◌||◌, filter, fold, drop, take, length, Option, Some, None, unwrap_or, ◌==◌, eqb-true, eq-eqb, bytes_eq, true≢false, arith}
+use Rattle.std.proofs.Common.{◌≡◌, refl, sym, ap, ◌∙◌, subst, ℕ, ◌+◌, List, [], ◌∷◌, ◌++◌, Bool, true, false, not, cond, ◌&&◌, ◌||◌, filter, fold, drop, length, Option, Some, None, unwrap_or, ◌==◌, eqb-true, eq-eqb, bytes_eq, true≢false, arith}
 use Rattle.std.specs.Prelude.{position}
 use Rattle.std.specs.List.{list_all}
 use Rattle.std.proofs.lemmas.Bool.{false_from_ne_true}
@@ -20,10 +20,17 @@ use Rattle.jsp_model.specs.Changes.{hears, owe, add_row, new_row, write, give, b
 use Rattle.jsp_laws.proofs.Lists.{Each, each_weaker, each_kept, each_filter, each_touched, all_kept}
 use Rattle.jsp_laws.proofs.Sound.{after_giving}
 use Rattle.jsp_quiet.specs.Steady.{spaces_of, HasJoined, RowFits, IsPlaced}
-use Rattle.jsp_quiet.proofs.Lists.{kept_alike, mapped_alike, updated_alike, flat_alike, all_updated, all_pushed}
+use Rattle.jsp_quiet.proofs.Lists.{kept_alike, mapped_alike, updated_alike, flat_alike, added_alike, all_updated, all_pushed}
 use Rattle.jsp_quiet.proofs.Still.{here, is_paid, all_there, Still, still_none, still_then}
 use Rattle.jsp_quiet.proofs.Spaces.{joining}
 use Rattle.jsp_quiet.proofs.Placed.{choose}
+
+-- the test sees neither the end of a row nor the marks on it
+abbrev pub SeesNoMarks : (Row → Bool) → Type 0
+SeesNoMarks q = (r : Row) (end : ℕ) (writer taker : Option ℕ) (readers : List ℕ) → q (record r { end = end; writer = writer; taker = taker; readers = readers }) ≡ q r
+
+here_sees : (p : ℕ) → SeesNoMarks (here p)
+here_sees p r end writer taker readers = refl
 
 -- ---- what goes
 
@@ -64,14 +71,10 @@ still_owe p o st row e = record {
       (λ q k u. paid_elsewhere p row q e (middle (hears o q) (q.space == row.space) (matches st.classes q.template row.entry) k)) st.registrations h;
 }
 
-pushed_elsewhere : (p : ℕ) (rows : List Row) (row : Row) → (row.space == p) ≡ false → filter (here p) (rows ++ row ∷ []) ≡ filter (here p) rows
-pushed_elsewhere p [] row e = rw e refl
-pushed_elsewhere p (r ∷ rows) row e = ap (λ ys. cond (here p r) (r ∷ ys) ys) (pushed_elsewhere p rows row e)
-
 still_put : (p : ℕ) (st : State) (row : Row) → (row.space == p) ≡ false → Still p st (add_row st row)
 still_put p st row e =
     let put : State = record st { rows = st.rows ++ row ∷ []; next_number = st.next_number + 1 } in
-    let first : Still p st put = record { classes = refl; rows = pushed_elsewhere p st.rows row e; blocked = λ t h. h; registrations = λ h. h } in
+    let first : Still p st put = record { classes = refl; rows = added_alike (here p) st.rows (row ∷ []) (e, tt); blocked = λ t h. h; registrations = λ h. h } in
     still_then first (still_owe p row.writer put row e)
 
 rows_elsewhere : (p : ℕ) (st : State) (w : WriteRequest) → (place_of st w.space == p) ≡ false → (raws : List Raw) (b : State) → b.spaces ≡ st.spaces → Still p st b → Still p st (fold (λ b raw. add_row b (new_row b w raw)) b raws)
@@ -89,24 +92,37 @@ still_write p st w e =
 
 -- ---- giving and waiting
 
-given_elsewhere : (p : ℕ) (b take : Bool) (x : Option ℕ) (r : Row) → (b ≡ true → (r.space == p) ≡ false) → filter (here p) (after_giving b take x r) ≡ filter (here p) (r ∷ [])
-given_elsewhere p true true None r e = rw (e refl) refl
-given_elsewhere p true true (Some x) r e = rw (e refl) refl
-given_elsewhere p true false None r e = refl
-given_elsewhere p true false (Some x) r e = rw (e refl) refl
-given_elsewhere p false take x r e = refl
+given_elsewhere : (q : Row → Bool) → SeesNoMarks q → (b takes : Bool) (x : Option ℕ) (r : Row) → (q r ≡ true → b ≡ false) → filter q (after_giving b takes x r) ≡ filter q (r ∷ [])
+given_elsewhere q s true takes x r e = go takes x
+  where
+    no : q r ≡ false
+    no = false_from_ne_true (q r) (λ k. true≢false (e k))
+
+    go : (takes : Bool) (x : Option ℕ) → filter q (after_giving true takes x r) ≡ filter q (r ∷ [])
+    go true None = rw no refl
+    go true (Some x) = rw (s r r.end r.writer (Some x) r.readers ∙ no, no) refl
+    go false None = refl
+    go false (Some x) = rw (s r r.end r.writer r.taker (cond (contains r.readers x) r.readers (r.readers ++ x ∷ [])) ∙ no, no) refl
+given_elsewhere q s false takes x r e = refl
+
+pub given_alike : (q : Row → Bool) → SeesNoMarks q → (st : State) (b : Blocked) (ns : List ℕ) → Each (λ (r : Row). q r ≡ true → contains ns r.number ≡ false) st.rows → filter q (give st b ns).rows ≡ filter q st.rows
+given_alike q s st b ns h =
+    flat_alike q _ st.rows (each_weaker (λ (r : Row). q r ≡ true → contains ns r.number ≡ false) _ (λ r k. given_elsewhere q s (contains ns r.number) (is_take b.form) b.transaction r k) st.rows h)
 
 pub still_give : (p : ℕ) (st : State) (b : Blocked) (ns : List ℕ) → (b.space == p) ≡ false → Each (λ (r : Row). contains ns r.number ≡ true → (r.space == b.space) ≡ true) st.rows → Still p st (give st b ns)
 still_give p st b ns e there = record {
   classes = refl;
-  rows = flat_alike (here p) _ st.rows (each_weaker (λ (r : Row). contains ns r.number ≡ true → (r.space == b.space) ≡ true) _
-      (λ r h. given_elsewhere p (contains ns r.number) (is_take b.form) b.transaction r (λ k. away r (h k))) st.rows there);
+  rows = given_alike (here p) (here_sees p) st b ns (each_weaker (λ (r : Row). contains ns r.number ≡ true → (r.space == b.space) ≡ true) (λ (r : Row). here p r ≡ true → contains ns r.number ≡ false) (λ r h k. away r k h) st.rows there);
   blocked = λ t h. h;
   registrations = λ h. h;
 }
   where
-    away : (r : Row) → (r.space == b.space) ≡ true → (r.space == p) ≡ false
-    away r k = subst (λ s. (s == p) ≡ false) (sym (eqb-true r.space b.space k)) e
+    away : (r : Row) → here p r ≡ true → (contains ns r.number ≡ true → (r.space == b.space) ≡ true) → contains ns r.number ≡ false
+    away r k h =
+        false_from_ne_true (contains ns r.number) (λ z.
+        let same : r.space ≡ b.space = eqb-true r.space b.space (h z) in
+        let elsewhere : (r.space == p) ≡ false = subst (λ s. (s == p) ≡ false) (sym same) e in
+        true≢false (sym k ∙ elsewhere))
 
 still_block : (p : ℕ) (st : State) (b : Blocked) → (b.space == p) ≡ false → Still p st (block st b)
 still_block p st b e = record { classes = refl; rows = refl; blocked = λ t h. all_pushed (λ b. not (b.space == p) || t b) st.blocked b (rw e refl) h; registrations = λ h. h }
@@ -151,9 +167,9 @@ still_tell p st n = record {
 
 -- ---- the end of a transaction that didn't join the space
 
--- if the row stands there, the transaction has no mark on it
-abbrev Unmarked : ℕ → ℕ → Row → Type 0
-Unmarked p x r = here p r ≡ true → (is_caller r.writer x ≡ false) × (is_caller r.taker x ≡ false) × (contains r.readers x ≡ false)
+-- if the row passes the test, the transaction has no mark on it
+abbrev pub Unmarked : (Row → Bool) → ℕ → Row → Type 0
+Unmarked q x r = q r ≡ true → (is_caller r.writer x ≡ false) × (is_caller r.taker x ≡ false) × (contains r.readers x ≡ false)
 
 no_caller : (ts : List Transaction) (o : Option ℕ) (x p : ℕ) → HasJoined ts o p → contains (spaces_of ts x) p ≡ false → is_caller o x ≡ false
 no_caller ts None x p j e = refl
@@ -163,8 +179,8 @@ no_caller ts (Some y) x p j e = go (y == x) refl
     go true k = let w : contains (spaces_of ts x) p ≡ true = j x (ap Some (eqb-true y x k)) in absurd (true≢false (sym w ∙ e))
     go false k = refl
 
-unmarked : (st : State) (p x : ℕ) → IsPlaced st → contains (spaces_of st.transactions x) p ≡ false → Each (Unmarked p x) st.rows
-unmarked st p x h e = each_weaker (RowFits st.classes st.transactions) (Unmarked p x) (λ r f k. go r f (eqb-true r.space p k)) st.rows h.rows
+unmarked : (st : State) (p x : ℕ) → IsPlaced st → contains (spaces_of st.transactions x) p ≡ false → Each (Unmarked (here p) x) st.rows
+unmarked st p x h e = each_weaker (RowFits st.classes st.transactions) (Unmarked (here p) x) (λ r f k. go r f (eqb-true r.space p k)) st.rows h.rows
   where
     go : (r : Row) → RowFits st.classes st.transactions r → r.space ≡ p → (is_caller r.writer x ≡ false) × (is_caller r.taker x ≡ false) × (contains r.readers x ≡ false)
     go r f w = (
@@ -181,32 +197,33 @@ without_none x (n ∷ ns) e = go (n == x) e (without_none x ns)
     go true k ih = absurd (cc)
     go false k ih = ap (λ ys. n ∷ ys) (ih k)
 
-unread_same : (x : ℕ) (r : Row) → contains r.readers x ≡ false → unread x r ≡ r
+pub unread_same : (x : ℕ) (r : Row) → contains r.readers x ≡ false → unread x r ≡ r
 unread_same x r e = ap (λ ns. record r { readers = ns }) (without_none x r.readers e)
 
-aborted_elsewhere : (p x : ℕ) (rows : List Row) → Each (Unmarked p x) rows → filter (here p) (aborted x rows) ≡ filter (here p) rows
-aborted_elsewhere p x rows u =
+pub aborted_alike : (q : Row → Bool) → SeesNoMarks q → (x : ℕ) (rows : List Row) → Each (Unmarked q x) rows → filter q (aborted x rows) ≡ filter q rows
+aborted_alike q s x rows u =
     let kept : List Row = filter (λ row. not (is_caller row.writer x)) rows in
-    let a : Each (Unmarked p x) kept = each_filter (Unmarked p x) _ rows u in
-    let gone : Row → Row = λ row. record row { taker = None } in
-    let c : Each (Unmarked p x) (update (λ row. is_caller row.taker x) (λ (row : Row). record row { taker = None }) kept) = each_touched (Unmarked p x) (λ row. is_caller row.taker x) (λ (row : Row). record row { taker = None }) (λ r h k. ((h k).0, refl, (h k).2)) kept a in
-    mapped_alike (here p) (unread x) (λ r. refl) _ (each_weaker (Unmarked p x) (λ r. here p r ≡ true → unread x r ≡ r) (λ r h k. unread_same x r (h k).2) _ c)
-    ∙ updated_alike (here p) (λ row. is_caller row.taker x) (λ (row : Row). record row { taker = None }) (λ r. refl) kept (each_weaker (Unmarked p x) (λ r. here p r ≡ true → is_caller r.taker x ≡ false) (λ r h k. (h k).1) kept a)
-    ∙ kept_alike (here p) (λ row. not (is_caller row.writer x)) rows (each_weaker (Unmarked p x) (λ r. here p r ≡ true → not (is_caller r.writer x) ≡ true) (λ r h k. rw (h k).0 refl) rows u)
+    let a : Each (Unmarked q x) kept = each_filter (Unmarked q x) _ rows u in
+    let seen : (r : Row) → q (record r { taker = None }) ≡ q r = λ r. s r r.end r.writer None r.readers in
+    let c : Each (Unmarked q x) (update (λ row. is_caller row.taker x) (λ (row : Row). record row { taker = None }) kept) = each_touched (Unmarked q x) (λ row. is_caller row.taker x) (λ (row : Row). record row { taker = None }) (λ r h k. let z = h (sym (seen r) ∙ k) in (z.0, refl, z.2)) kept a in
+    mapped_alike q (unread x) (λ r. s r r.end r.writer r.taker _) _ (each_weaker (Unmarked q x) (λ r. q r ≡ true → unread x r ≡ r) (λ r h k. unread_same x r (h k).2) _ c)
+    ∙ updated_alike q (λ row. is_caller row.taker x) (λ (row : Row). record row { taker = None }) seen kept (each_weaker (Unmarked q x) (λ r. q r ≡ true → is_caller r.taker x ≡ false) (λ r h k. (h k).1) kept a)
+    ∙ kept_alike q (λ row. not (is_caller row.writer x)) rows (each_weaker (Unmarked q x) (λ r. q r ≡ true → not (is_caller r.writer x) ≡ true) (λ r h k. rw (h k).0 refl) rows u)
 
-committed_elsewhere : (p x : ℕ) (rows : List Row) → Each (Unmarked p x) rows → filter (here p) (committed x rows) ≡ filter (here p) rows
-committed_elsewhere p x rows u =
+pub committed_alike : (q : Row → Bool) → SeesNoMarks q → (x : ℕ) (rows : List Row) → Each (Unmarked q x) rows → filter q (committed x rows) ≡ filter q rows
+committed_alike q s x rows u =
     let kept : List Row = filter (λ row. not (is_caller row.taker x)) rows in
-    let a : Each (Unmarked p x) kept = each_filter (Unmarked p x) _ rows u in
-    let c : Each (Unmarked p x) (update (λ row. is_caller row.writer x) (λ (row : Row). record row { writer = None }) kept) = each_touched (Unmarked p x) (λ row. is_caller row.writer x) (λ (row : Row). record row { writer = None }) (λ r h k. (refl, (h k).1, (h k).2)) kept a in
-    mapped_alike (here p) (unread x) (λ r. refl) _ (each_weaker (Unmarked p x) (λ r. here p r ≡ true → unread x r ≡ r) (λ r h k. unread_same x r (h k).2) _ c)
-    ∙ updated_alike (here p) (λ row. is_caller row.writer x) (λ (row : Row). record row { writer = None }) (λ r. refl) kept (each_weaker (Unmarked p x) (λ r. here p r ≡ true → is_caller r.writer x ≡ false) (λ r h k. (h k).0) kept a)
-    ∙ kept_alike (here p) (λ row. not (is_caller row.taker x)) rows (each_weaker (Unmarked p x) (λ r. here p r ≡ true → not (is_caller r.taker x) ≡ true) (λ r h k. rw (h k).1 refl) rows u)
+    let a : Each (Unmarked q x) kept = each_filter (Unmarked q x) _ rows u in
+    let seen : (r : Row) → q (record r { writer = None }) ≡ q r = λ r. s r r.end None r.taker r.readers in
+    let c : Each (Unmarked q x) (update (λ row. is_caller row.writer x) (λ (row : Row). record row { writer = None }) kept) = each_touched (Unmarked q x) (λ row. is_caller row.writer x) (λ (row : Row). record row { writer = None }) (λ r h k. let z = h (sym (seen r) ∙ k) in (refl, z.1, z.2)) kept a in
+    mapped_alike q (unread x) (λ r. s r r.end r.writer r.taker _) _ (each_weaker (Unmarked q x) (λ r. q r ≡ true → unread x r ≡ r) (λ r h k. unread_same x r (h k).2) _ c)
+    ∙ updated_alike q (λ row. is_caller row.writer x) (λ (row : Row). record row { writer = None }) seen kept (each_weaker (Unmarked q x) (λ r. q r ≡ true → is_caller r.writer x ≡ false) (λ r h k. (h k).0) kept a)
+    ∙ kept_alike q (λ row. not (is_caller row.taker x)) rows (each_weaker (Unmarked q x) (λ r. q r ≡ true → not (is_caller r.taker x) ≡ true) (λ r h k. rw (h k).1 refl) rows u)
 
 pub still_abort : (p : ℕ) (st : State) (x : ℕ) → IsPlaced st → contains (spaces_of st.transactions x) p ≡ false → Still p st (abort st x)
 still_abort p st x h e = record {
   classes = refl;
-  rows = aborted_elsewhere p x st.rows (unmarked st p x h e);
+  rows = aborted_alike (here p) (here_sees p) x st.rows (unmarked st p x h e);
   blocked = λ t k. there_kept p _ t st.blocked k;
   registrations = λ k. paid_kept p _ st.registrations k;
 }
@@ -215,7 +232,7 @@ owed_elsewhere : (p : ℕ) (rows : List Row) → Each (λ (r : Row). (r.space ==
 owed_elsewhere p [] e st = still_none p st
 owed_elsewhere p (r ∷ rows) (e, es) st = still_then (still_owe p None st r e) (owed_elsewhere p rows es (owe None st r))
 
-written_elsewhere : (p x : ℕ) (r : Row) → Unmarked p x r → (is_caller r.writer x && not (is_caller r.taker x)) ≡ true → (r.space == p) ≡ false
+written_elsewhere : (p x : ℕ) (r : Row) → Unmarked (here p) x r → (is_caller r.writer x && not (is_caller r.taker x)) ≡ true → (r.space == p) ≡ false
 written_elsewhere p x r u e = go (r.space == p) refl
   where
     go : (b : Bool) → (r.space == p) ≡ b → b ≡ false
@@ -224,15 +241,15 @@ written_elsewhere p x r u e = go (r.space == p) refl
 
 pub still_commit : (p : ℕ) (st : State) (x : ℕ) → IsPlaced st → contains (spaces_of st.transactions x) p ≡ false → Still p st (commit st x)
 still_commit p st x h e =
-    let u : Each (Unmarked p x) st.rows = unmarked st p x h e in
+    let u : Each (Unmarked (here p) x) st.rows = unmarked st p x h e in
     let freed : State = record (forget st x) { rows = committed x st.rows } in
     let first : Still p st freed = record {
       classes = refl;
-      rows = committed_elsewhere p x st.rows u;
+      rows = committed_alike (here p) (here_sees p) x st.rows u;
       blocked = λ t k. there_kept p _ t st.blocked k;
       registrations = λ k. paid_kept p _ st.registrations k;
     } in
-    still_then first (owed_elsewhere p (published x st.rows) (each_kept (Unmarked p x) (λ (r : Row). (r.space == p) ≡ false) (λ row. is_caller row.writer x && not (is_caller row.taker x)) (λ r k q. written_elsewhere p x r q k) st.rows u) freed)
+    still_then first (owed_elsewhere p (published x st.rows) (each_kept (Unmarked (here p) x) (λ (r : Row). (r.space == p) ≡ false) (λ row. is_caller row.writer x && not (is_caller row.taker x)) (λ r k q. written_elsewhere p x r q k) st.rows u) freed)
 
 -- ---- votes
 

@@ -1,7 +1,8 @@
 -- Laws of each legal step from a steady state, and of runs of them.
-use Rattle.std.specs.Prelude.{◌≡◌, ℕ, ◌+◌, ◌<◌, ◌≤◌, not, List, None, Some, take, length, Result, IsTrue, IsFalse}
+use Rattle.std.specs.Prelude.{◌≡◌, ℕ, ◌+◌, ◌<◌, ◌≤◌, ◌⊎◌, not, List, None, Some, take, length, Result, IsTrue, IsFalse}
 use Rattle.std.specs.List.{list_all}
 use Rattle.jsp_model.specs.declared.state.State.{State}
+use Rattle.jsp_model.specs.declared.state.Row.{Row}
 use Rattle.jsp_model.specs.declared.state.Blocked.{Blocked}
 use Rattle.jsp_model.specs.declared.state.Registration.{Registration}
 use Rattle.jsp_model.specs.declared.step.Step.{Step}
@@ -10,16 +11,17 @@ use Rattle.jsp_model.specs.declared.house.Input.{Input}
 use Rattle.jsp_model.specs.declared.house.Stopped.{Stopped}
 use Rattle.jsp_lease.specs.declared.item.Item.{Item}
 use Rattle.jsp_model.specs.Lookup.{empty, contains}
-use Rattle.jsp_model.specs.Sight.{available}
+use Rattle.jsp_model.specs.Sight.{wants, available}
 use Rattle.jsp_model.specs.Quiet.{must_wait, is_quiet, are_quiet}
 use Rattle.jsp_model.specs.Due.{due}
 use Rattle.jsp_model.specs.Touches.{touches}
 use Rattle.jsp_model.specs.Steps.{is_legal, next}
 use Rattle.jsp_model.specs.Runs.{IsRun, state_after}
 use Rattle.jsp_model.specs.House.{is_unasked, touched, Acts}
-use Rattle.jsp_laws.proofs.Lists.{Has}
+use Rattle.jsp_laws.proofs.Lists.{Each, Has}
 use Rattle.jsp_quiet.specs.Steady.{IsSteady}
 use Rattle.jsp_quiet.specs.Quieting.{stirs, stirred, decides, can_make_due, quiets, owed_events, left_to_say, living, asks_for_some, AllAskForSome, AllSettled}
+use Rattle.jsp_quiet.specs.Waking.{moves, moves_any}
 
 -- ---- steady states
 
@@ -60,6 +62,20 @@ abbrev pub ActsSettle : Type 0
 ActsSettle =
     (old new : State) (owed left : List ℕ) (before after : List Step) (x : Input) (result : Result Unit Stopped) → IsSteady old
     → Acts old new owed left before after x result → AllSettled old owed → AllSettled new left
+
+-- ---- what goes on waiting, over any step from any state
+
+-- A request that must wait goes on waiting over a step that moves no row which it wants, and adds none.
+abbrev pub WaitingStays : Type 0
+WaitingStays =
+    (st : State) (act : Step) (b : Blocked) → IsFalse (moves_any act) → IsTrue (must_wait st b)
+    → Each (λ (row : Row). IsTrue (moves act row) → IsFalse (wants st b row)) st.rows
+    → Each (λ (row : Row). st.next_number ≤ row.number → IsFalse (wants st b row)) (next st act).rows
+    → IsTrue (must_wait (next st act) b)
+
+-- What waits after a step waited before it, or has a new number.
+abbrev pub WaitingComes : Type 0
+WaitingComes = (st : State) (act : Step) (b : Blocked) → Has (next st act).blocked b → Has st.blocked b ⊎ (st.next_number ≤ b.number)
 
 -- ---- what becomes due
 

@@ -1,11 +1,7 @@
 -- What has a lease, once that was renewed: the one of this number has this end.
 use Rattle.std.specs.Prelude.{ℕ, ◌==◌, if◌then◌else◌}
-use Rattle.jsp_model.specs.declared.state.Registration.{Registration}
 use Rattle.jsp_model.specs.declared.state.Transaction.{Transaction}
 use Rattle.jsp_model.specs.declared.state.MatchSet.{MatchSet}
-
-abbrev pub registration_ending : ℕ → ℕ → Registration → Registration
-registration_ending n end r = if r.number == n then record r { end = end } else r
 
 abbrev pub transaction_ending : ℕ → ℕ → Transaction → Transaction
 transaction_ending n end t = if t.number == n then record t { end = end } else t

@@ -1,17 +1,17 @@
 -- What waiting requests are told, of lists of them.
 use Rattle.std.specs.Prelude.{ℕ, Bool, ◌&&◌, ◌==◌, if◌then◌else◌, List, map, filter, Some, is_some}
-use Rattle.std.specs.List.{list_any}
 use Rattle.jsp_reply.specs.declared.reply.Reply.{Reply}
 use Rattle.jsp_reply.specs.declared.reply.Reply.TheVariants as says
-use Rattle.jsp_reply.specs.declared.refusal.Refusal.TheVariants.{LeftActive, CrashCount}
+use Rattle.jsp_reply.specs.declared.refusal.Refusal.{Refusal}
+use Rattle.jsp_reply.specs.declared.refusal.Refusal.TheVariants.{CrashCount}
 use Rattle.jsp_model.specs.declared.state.Blocked.{Blocked}
 use Rattle.jsp_model.specs.declared.state.Commit.{Commit}
-use Rattle.jsp_model.specs.Lookup.{is_caller}
 use Rattle.jsp_model.specs.Answers.{Saying, aborted_reply}
+use Rattle.jsp_wait.specs.declared.waiters.Asker.{Asker}
 
--- those of these that are under one of the transactions are refused
-abbrev pub under_refused : List ℕ → List Blocked → List Saying
-under_refused xs blocked = map (λ b. (b.session, says.Refused (Some b.id) LeftActive)) (filter (λ b. list_any (is_caller b.transaction) xs) blocked)
+-- each is refused so
+abbrev pub all_refused : Refusal → List Asker → List Saying
+all_refused refusal askers = map (λ (a : Asker). (a.session, says.Refused (Some a.id) refusal)) askers
 
 -- those of these that are under a transaction at the space
 abbrev pub at_space_refused : ℕ → List Blocked → List Saying

@@ -143,9 +143,10 @@ fn is_row_left(state: &Core, earlier: &[i64], number: u64) -> bool
 fn is_registration_left(state: &Core, earlier: &[i64], number: u64) -> bool
     ensures { result ≡ list_any (λ r. r.number == number && not (ended state.now earlier.now r.number r.transaction)) state.now.registrations }
 {
-    let registrations = state.registrations.as_slice();
-    registrations.iter().any(|r| r.number == number
-        && !is_ended(state, earlier, r.number, r.transaction))
+    state.registrations.any_of(
+        number,
+        |r| !is_ended(state, earlier, r.number, r.transaction),
+    )
 }
 
 fn is_transaction_left(state: &Core, earlier: &[i64], number: u64) -> bool

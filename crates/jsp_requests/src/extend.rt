@@ -1,10 +1,10 @@
 //! Setting the end of what has a lease.
 ghost use Rattle.std.specs.Prelude.{◌≡◌, map};
 ghost use Rattle.jsp_model.specs.Changes.{extend as extended};
-ghost use Rattle.jsp_requests.specs.Ending.{registration_ending, transaction_ending, set_ending};
+ghost use Rattle.jsp_requests.specs.Ending.{transaction_ending, set_ending};
 
 use jsp_core::Core;
-use jsp_model::{MatchSet, Rank, Registration, Transaction};
+use jsp_model::{MatchSet, Rank, Transaction};
 
 /// What has this number ends then.
 pub(crate) fn extend(state: &mut Core, end: u64, rank: Rank, number: u64)
@@ -17,7 +17,7 @@ pub(crate) fn extend(state: &mut Core, end: u64, rank: Rank, number: u64)
         }
         Rank::Registration => {
             let registrations = &mut state.registrations;
-            extend_registrations(&mut registrations.items, number, end);
+            registrations.extend(number, end);
         }
         Rank::Transaction => {
             let transactions = &mut state.transactions;
@@ -28,22 +28,6 @@ pub(crate) fn extend(state: &mut Core, end: u64, rank: Rank, number: u64)
             let sets = &mut state.sets;
             extend_sets(&mut sets.items, number, end);
         }
-    }
-}
-
-fn extend_registrations(registrations: &mut [Registration], number: u64, end: u64)
-    ensures { registrations.new ≡ map (registration_ending number end) registrations.old }
-{
-    'registrations: for registration in registrations.iter_mut() {
-        extend_registration(registration, number, end);
-    }
-}
-
-fn extend_registration(registration: &mut Registration, number: u64, end: u64)
-    ensures { registration.new ≡ registration_ending number end registration.old }
-{
-    if registration.number == number {
-        registration.end = end;
     }
 }
 

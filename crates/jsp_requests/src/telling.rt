@@ -1,17 +1,15 @@
 //! What others are told by a request or a decision: blocked requests that are refused, and commits
 //! that are answered.
 ghost use Rattle.std.specs.Prelude.{◌≡◌, ◌++◌, ◌∷◌, [], if◌then◌else◌, Some, IfOk, OnOk};
-ghost use Rattle.std.specs.List.{list_any};
 ghost use Rattle.jsp_reply.specs.declared.reply.Reply.TheVariants as says;
-ghost use Rattle.jsp_model.specs.Lookup.{is_caller as calls};
 ghost use Rattle.jsp_model.specs.Answers.{refuse_under as refused_under, answer_commit as commit_answered, aborted_reply};
-ghost use Rattle.jsp_requests.specs.Telling.{under_refused, at_space_refused, commits_answered, decision};
+ghost use Rattle.jsp_requests.specs.Telling.{all_refused, at_space_refused, commits_answered, decision};
 
 use jsp_core::Core;
-use jsp_model::{Blocked, Commit};
+use jsp_model::Commit;
 use jsp_reply::{Refusal, Reply};
-use jsp_state::is_caller;
 use jsp_types::NoMemory;
+use jsp_wait::Asker;
 use std::alloc::Global;
 
 /// The blocked requests under these transactions, which left the active state, are refused, in
@@ -23,40 +21,23 @@ pub fn refuse_under(
 ) -> Result<Vec<(u64, Reply)>, NoMemory>
     ensures { IfOk result (λ v. v.items ≡ refused_under state.now transactions.now) }
 {
-    refuse_each_under(alloc, state.blocked.as_slice(), transactions)
+    let askers = state.blocked.askers_under(alloc, transactions)?;
+    refuse_each(alloc, askers.as_slice(), Refusal::LeftActive)
 }
 
-fn refuse_each_under(
+/// Each of these requests is refused so.
+fn refuse_each(
     alloc: Global,
-    blocked: &[Blocked],
-    transactions: &[u64],
+    askers: &[Asker],
+    refusal: Refusal,
 ) -> Result<Vec<(u64, Reply)>, NoMemory>
-    ensures { IfOk result (λ v. v.items ≡ under_refused transactions.now blocked.now) }
+    ensures { IfOk result (λ v. v.items ≡ all_refused refusal askers.now) }
 {
     let mut told = Vec::new(alloc);
-    'blocked: for request in blocked {
-        refuse_if_under(&mut told, request, transactions)?;
+    'askers: for asker in askers {
+        told.push((asker.session, refusal_of(asker.id, refusal)))?;
     }
     Ok(told)
-}
-
-fn refuse_if_under(
-    told: &mut Vec<(u64, Reply)>,
-    request: &Blocked,
-    transactions: &[u64],
-) -> Result<(), NoMemory>
-    ensures { OnOk result (told.new.items ≡ told.old.items ++ under_refused transactions.now (request.now ∷ [])) }
-{
-    if is_under(request.transaction, transactions) {
-        told.push((request.session, refusal_of(request.id, Refusal::LeftActive)))?;
-    }
-    Ok(())
-}
-
-fn is_under(caller: Option<u64>, transactions: &[u64]) -> bool
-    ensures { result ≡ list_any (calls caller) transactions.now }
-{
-    transactions.iter().any(|x| is_caller(caller, *x))
 }
 
 fn refusal_of(id: u64, refusal: Refusal) -> Reply
@@ -77,30 +58,8 @@ pub(crate) fn refuse_at(
 ) -> Result<Vec<(u64, Reply)>, NoMemory>
     ensures { IfOk result (λ v. v.items ≡ at_space_refused space state.now.blocked) }
 {
-    refuse_each_at(alloc, state.blocked.as_slice(), space)
-}
-
-fn refuse_each_at(
-    alloc: Global,
-    blocked: &[Blocked],
-    space: u64,
-) -> Result<Vec<(u64, Reply)>, NoMemory>
-    ensures { IfOk result (λ v. v.items ≡ at_space_refused space blocked.now) }
-{
-    let mut told = Vec::new(alloc);
-    'blocked: for request in blocked {
-        refuse_if_at(&mut told, request, space)?;
-    }
-    Ok(told)
-}
-
-fn refuse_if_at(told: &mut Vec<(u64, Reply)>, request: &Blocked, space: u64) -> Result<(), NoMemory>
-    ensures { OnOk result (told.new.items ≡ told.old.items ++ at_space_refused space (request.now ∷ [])) }
-{
-    if request.space == space && request.transaction.is_some() {
-        told.push((request.session, refusal_of(request.id, Refusal::CrashCount)))?;
-    }
-    Ok(())
+    let askers = state.blocked.askers_at(alloc, space)?;
+    refuse_each(alloc, askers.as_slice(), Refusal::CrashCount)
 }
 
 /// The commit of the transaction, if it was asked, is answered: done, or refused since the

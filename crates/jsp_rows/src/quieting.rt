@@ -9,7 +9,7 @@ ghost use Rattle.jsp_quiet.specs.Quieting.{quiets};
 use jsp_audit::choose;
 use jsp_core::Core;
 use jsp_model::{Blocked, Registration, Step};
-use jsp_state::{has_none, must_wait};
+use jsp_state::{Answerable, Grantable};
 use jsp_types::NoMemory;
 use std::alloc::Global;
 
@@ -51,31 +51,19 @@ pub(crate) fn quieting_step(
 fn first_grantable<'a>(state: &'a Core, space: u64) -> Option<&'a Blocked>
     ensures { option_copied result ≡ find (λ b. b.space == space && not (length (available state.now b) == 0)) state.now.blocked }
 {
-    state
-        .blocked
-        .as_slice()
-        .iter()
-        .find(|b| b.space == space && !has_none(state, b))
+    state.blocked.first_at(space, &Grantable { state })
 }
 
 /// The first request of the space that has to wait no longer.
 fn first_without_hope<'a>(state: &'a Core, space: u64) -> Option<&'a Blocked>
     ensures { option_copied result ≡ find (λ b. b.space == space && not (waits state.now b)) state.now.blocked }
 {
-    state
-        .blocked
-        .as_slice()
-        .iter()
-        .find(|b| b.space == space && !must_wait(state, b))
+    state.blocked.first_at(space, &Answerable { state })
 }
 
 /// The first registration of the space that is owed an event.
 fn first_owed<'a>(state: &'a Core, space: u64) -> Option<&'a Registration>
     ensures { option_copied result ≡ find (λ r. r.space == space && not (length r.owed == 0)) state.now.registrations }
 {
-    state
-        .registrations
-        .as_slice()
-        .iter()
-        .find(|r| r.space == space && !r.owed.as_slice().is_empty())
+    state.registrations.first_owed(space)
 }

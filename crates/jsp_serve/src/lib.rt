@@ -25,5 +25,5 @@ mod tests;
 mod writing;
 
 pub use jsp_floor::{Closed, RunFault};
-pub use run::{Ending, Status, script};
+pub use run::{Ending, Options, Status, script};
 pub use server::serve;

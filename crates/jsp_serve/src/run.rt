@@ -1,6 +1,10 @@
 //! A script from its text to what is printed.
-ghost use Rattle.std.specs.Prelude.{◌≡◌, ◌≤◌, ◌^◌, IfOk, IfErr, IfSome, OnOk, OnErr, length};
+ghost use Rattle.std.specs.Prelude.{◌≡◌, ◌≤◌, ◌^◌, ℕ, IfOk, IfErr, IfSome, OnOk, OnErr, flat_map, length};
 ghost use Rattle.std.specs.Io.KnownBytes.{Appends, Keeps};
+ghost use Rattle.jsp_model.specs.Lookup.{empty};
+ghost use Rattle.jsp_model.specs.Runs.{IsRun, said_to};
+ghost use Rattle.jsp_drive.specs.Heard.{framed};
+ghost use Rattle.jsp_drive.specs.Tie.{IsTied, bytes_to};
 ghost use Rattle.jsp_serve.specs.Script.{lines_of, FailsBy};
 ghost use Rattle.jsp_serve.specs.Print.{Prints, Wrote, IsRefused};
 ghost use Rattle.jsp_serve.specs.Faults.{AppendsSome, Fails, ReadsNone, StopsBy};
@@ -11,15 +15,27 @@ use crate::fault::ScriptFault;
 use crate::lines::read_acts;
 use crate::print::printed;
 use crate::writing::{tell, write_bytes};
-use jsp_drive::drive;
+use jsp_drive::{Act, Driven, drive};
 use jsp_hall::Hall;
-use jsp_rows::Config;
+use jsp_rows::{Config, RowsHouse};
+use jsp_types::NoMemory;
 use std::alloc::Global;
 use std::io::{ErrorKind, Read, Write};
 use std::process::ExitCode;
 
 /// The longest script, in bytes.
 const LONGEST: u64 = 16_777_216;
+
+/// How a script is run. Neither changes what is promised.
+#[derive(Clone, Copy, Debug, PartialEq, Eq)]
+pub struct Options {
+    /// Whether the run is replayed before anything is written, and compared with what was sent. That
+    /// takes time and memory.
+    pub audits: bool,
+    /// Whether each row is looked at in every search, instead of those that hints name. That takes
+    /// time.
+    pub scans: bool,
+}
 
 /// How a script ended.
 #[derive(Clone, Copy, Debug, PartialEq, Eq)]
@@ -59,13 +75,12 @@ impl From<Status> for ExitCode {
 /// pairs of hex digits. Or it is `clock t`, a reading in milliseconds, or `settle`, a turn of the house.
 /// Empty lines and lines that begin with `#` are passed over. For each answer `c JSON` is written to
 /// `out`, line by line in the order in which the answers are given. The first fault met is told on
-/// `faults` by one line. Where a line isn't understood or the input is too long, nothing is run. With
-/// `audits` the run is replayed before anything is written, and compared with what was sent; that
-/// takes time and memory, and changes nothing of what is promised. (This profile's own.)
+/// `faults` by one line. Where a line isn't understood or the input is too long, nothing is run. (This
+/// profile's own.)
 pub fn script<R: Read, W: Write, F: Write>(
     alloc: Global,
     config: &Config,
-    audits: bool,
+    options: Options,
     reader: &mut R,
     out: &mut W,
     faults: &mut F,
@@ -77,7 +92,7 @@ pub fn script<R: Read, W: Write, F: Write>(
     // A fault that applies is told by one line, where the script failed.
     ensures failed { result.status ≡ Status.Failed → Fails config.now (R.remaining reader.old) (W.contents out.old) (W.contents out.new) (F.contents faults.old) (F.contents faults.new) result.is_told }
 {
-    match run_script(alloc, config, audits, reader, out) {
+    match run_script(alloc, config, options, reader, out) {
         Ok(()) => Ending {
             status: Status::Done,
             is_told: true,
@@ -92,7 +107,7 @@ pub fn script<R: Read, W: Write, F: Write>(
 fn run_script<R: Read, W: Write>(
     alloc: Global,
     config: &Config,
-    audits: bool,
+    options: Options,
     reader: &mut R,
     out: &mut W,
 ) -> Result<(), ScriptFault>
@@ -101,7 +116,7 @@ fn run_script<R: Read, W: Write>(
     ensures stops { IfErr result (StopsBy config.now (R.remaining reader.old) (W.contents out.old) (W.contents out.new)) }
 {
     let text = read_text(alloc, reader)?;
-    let printed = answers(alloc, config, audits, text.as_slice())?;
+    let printed = answers(alloc, config, options, text.as_slice())?;
     write_text(out, printed.as_slice())
 }
 
@@ -109,7 +124,7 @@ fn run_script<R: Read, W: Write>(
 pub(crate) fn answers(
     alloc: Global,
     config: &Config,
-    audits: bool,
+    options: Options,
     text: &[u8],
 ) -> Result<Vec<u8>, ScriptFault>
     requires { length text.now ≤ 2 ^ 24 }
@@ -117,10 +132,8 @@ pub(crate) fn answers(
     ensures fault { IfErr result (FailsBy (lines_of text.now)) }
 {
     let acts = read_acts(alloc, text)?;
-    // Nobody else chooses what a script writes, so the seed may be any.
-    let house = Hall::new(alloc, config, 0)?;
-    let driven = drive(alloc, house, config, acts.as_slice())?;
-    if audits {
+    let driven = driven(alloc, config, options.scans, acts.as_slice())?;
+    if options.audits {
         audit(
             alloc,
             config,
@@ -129,6 +142,19 @@ pub(crate) fn answers(
         )?;
     }
     Ok(printed(alloc, driven.sent.as_slice())?)
+}
+
+/// The acts run on an empty house: one that looks at each row, or one that finds rows by hints.
+fn driven(alloc: Global, config: &Config, scans: bool, acts: &[Act]) -> Result<Driven, NoMemory>
+    ensures run { IfOk result (λ d. IsRun (empty config.now) d.steps.items) }
+    ensures tied { IfOk result (λ d. IsTied config.now acts.now d.steps.items d.sent.items) }
+    ensures bytes { IfOk result (λ d. (s : ℕ) → bytes_to s d.sent.items ≡ flat_map framed (said_to s (empty config.now) d.steps.items)) }
+{
+    if scans {
+        return drive(alloc, RowsHouse::new(alloc, config)?, config, acts);
+    }
+    // Nobody else chooses what a script writes, so the seed may be any.
+    drive(alloc, Hall::new(alloc, config, 0)?, config, acts)
 }
 
 fn read_text<R: Read>(alloc: Global, reader: &mut R) -> Result<Vec<u8>, ScriptFault>

@@ -2,7 +2,7 @@
 //! print are in `examples/` of the repository.
 use crate::audit::audit;
 use crate::fault::ScriptFault;
-use crate::{Ending, Status, script};
+use crate::{Ending, Options, Status, script};
 use jsp_drive::{Act, drive};
 use jsp_rows::{Config, RowsHouse};
 use jsp_types::{Items, Text};
@@ -11,6 +11,11 @@ use std::io::{self, ErrorKind, Read, Write};
 use std::test::Fail;
 
 const SCRIPT: &str = "open 7\nsend 7 {\"id\":1,\"op\":\"spaces\"}\n";
+
+const AUDITED: Options = Options {
+    audits: true,
+    scans: false,
+};
 
 const PRINTS: &str = "7 {\"id\":1,\"ok\":[\"a\"]}\n";
 
@@ -25,7 +30,7 @@ fn one_space(alloc: Global) -> Result<Config, Fail> {
 fn ends(alloc: Global, reader: &mut impl Read, out: &mut impl Write) -> Result<String, Fail> {
     let config = one_space(alloc)?;
     let mut faults = Vec::new(alloc);
-    let ending = match script(alloc, &config, true, reader, out, &mut faults) {
+    let ending = match script(alloc, &config, AUDITED, reader, out, &mut faults) {
         Ending { is_told: false, .. } => "untold",
         Ending {
             status: Status::Done,
@@ -125,7 +130,7 @@ fn a_fault_that_cannot_be_told_is_still_a_failure(rt: HostRuntime) -> Result<(),
     let ending = script(
         alloc,
         &config,
-        false,
+        AUDITED,
         &mut "what".as_bytes(),
         &mut out,
         &mut Breaks,

@@ -2,3 +2,4 @@ pub mod Fitting
 pub mod Scanning
 pub mod Soonest
 pub mod Testing
+pub mod Unsatisfied

@@ -5,11 +5,11 @@ ghost use Rattle.jsp_model.specs.Lookup.{is_voting as votes};
 ghost use Rattle.jsp_model.specs.Due.{due as first_due};
 ghost use Rattle.jsp_sight.specs.Rows.{earlier as earlier_of};
 ghost use Rattle.jsp_lease.specs.Tournament.{earlier as soonest_of};
-ghost use Rattle.jsp_state.specs.Ends.{registration_end, transaction_end, blocked_end, set_end};
+ghost use Rattle.jsp_state.specs.Ends.{transaction_end, set_end};
 
 use crate::transactions::is_voting;
 use jsp_core::Core;
-use jsp_model::{Blocked, Item, MatchSet, Rank, Registration, Transaction};
+use jsp_model::{Item, MatchSet, Rank, Transaction};
 use jsp_sight::earlier;
 
 /// The least due item, by end, rank and number: its end has come (the order is this profile's own).
@@ -19,9 +19,9 @@ pub fn due(state: &Core) -> Option<Item>
 {
     let time = state.time;
     let first = first_set(state.sets.as_slice(), time, None);
-    let first = first_blocked(state.blocked.as_slice(), time, first);
+    let first = soonest(state.blocked.due(time), first);
     let first = first_transaction(state, time, first);
-    let first = first_registration(state.registrations.as_slice(), time, first);
+    let first = soonest(state.registrations.due(time), first);
     soonest(state.rows.due(time), first)
 }
 
@@ -48,24 +48,6 @@ fn first_set(sets: &[MatchSet], time: u64, first: Option<Item>) -> Option<Item>
     over.map(set_item).fold(first, kept)
 }
 
-fn first_blocked(blocked: &[Blocked], time: u64, first: Option<Item>) -> Option<Item>
-    ensures { result ≡ fold earlier_of first (map blocked_end (filter (λ x. nat_le x.end time) (reverse blocked.now))) }
-{
-    let over = blocked.iter().rev().filter(|x| x.end <= time);
-    over.map(blocked_item).fold(first, kept)
-}
-
-fn first_registration(
-    registrations: &[Registration],
-    time: u64,
-    first: Option<Item>,
-) -> Option<Item>
-    ensures { result ≡ fold earlier_of first (map registration_end (filter (λ x. nat_le x.end time) (reverse registrations.now))) }
-{
-    let over = registrations.iter().rev().filter(|x| x.end <= time);
-    over.map(registration_item).fold(first, kept)
-}
-
 /// The end of a voting transaction doesn't count.
 fn first_transaction(state: &Core, time: u64, first: Option<Item>) -> Option<Item>
     ensures { result ≡ fold earlier_of first (over_by time (map transaction_end (filter (λ t. not (votes state.now t.number)) (reverse state.now.transactions)))) }
@@ -78,16 +60,6 @@ fn first_transaction(state: &Core, time: u64, first: Option<Item>) -> Option<Ite
         .fold(first, kept)
 }
 
-fn registration_item(registration: &Registration) -> Item
-    ensures { result ≡ registration_end registration.now }
-{
-    Item {
-        end: registration.end,
-        rank: Rank::Registration,
-        number: registration.number,
-    }
-}
-
 fn transaction_item(transaction: &Transaction) -> Item
     ensures { result ≡ transaction_end transaction.now }
 {
@@ -95,16 +67,6 @@ fn transaction_item(transaction: &Transaction) -> Item
         end: transaction.end,
         rank: Rank::Transaction,
         number: transaction.number,
-    }
-}
-
-fn blocked_item(blocked: &Blocked) -> Item
-    ensures { result ≡ blocked_end blocked.now }
-{
-    Item {
-        end: blocked.end,
-        rank: Rank::Blocked,
-        number: blocked.number,
     }
 }
 

@@ -35,11 +35,7 @@ fn is_row(state: &Core, number: u64) -> bool
 fn is_registration(state: &Core, number: u64) -> bool
     ensures { result ≡ list_any (λ r. r.number == number) state.now.registrations }
 {
-    state
-        .registrations
-        .as_slice()
-        .iter()
-        .any(|r| r.number == number)
+    state.registrations.has(number)
 }
 
 fn is_set(state: &Core, number: u64) -> bool

@@ -7,7 +7,7 @@ ghost use Rattle.jsp_state.specs.Versions.{versioned};
 ghost use Rattle.jsp_model.specs.declared.limits.TheConstants.{MOST_WAITING};
 
 use jsp_core::Core;
-use jsp_model::{Blocked, Commit, MOST_WAITING, MatchSet, Registration, Session};
+use jsp_model::{Commit, MOST_WAITING, MatchSet, Session};
 use jsp_types::NoMemory;
 use jsp_wire::Version;
 
@@ -26,14 +26,7 @@ pub fn is_open(state: &Core, session: u64) -> bool
 pub fn is_waiting(state: &Core, session: u64, id: u64) -> bool
     ensures { result ≡ waits state.now session id }
 {
-    is_blocked(state.blocked.as_slice(), session, id)
-        || is_asked(state.commits.as_slice(), session, id)
-}
-
-fn is_blocked(blocked: &[Blocked], session: u64, id: u64) -> bool
-    ensures { result ≡ list_any (λ b. b.session == session && b.id == id) blocked.now }
-{
-    blocked.iter().any(|b| b.session == session && b.id == id)
+    state.blocked.is_waiting(session, id) || is_asked(state.commits.as_slice(), session, id)
 }
 
 fn is_asked(commits: &[Commit], session: u64, id: u64) -> bool
@@ -46,15 +39,9 @@ fn is_asked(commits: &[Commit], session: u64, id: u64) -> bool
 pub fn waits_for_many(state: &Core, session: u64) -> bool
     ensures { result ≡ nat_le MOST_WAITING (waiting_count state.now session) }
 {
-    let blocked = count_blocked(state.blocked.as_slice(), session);
+    let blocked = state.blocked.count_of(session);
     let commits = count_asked(state.commits.as_slice(), session);
     MOST_WAITING <= blocked.saturating_add(commits)
-}
-
-fn count_blocked(blocked: &[Blocked], session: u64) -> usize
-    ensures { result ≡ length (filter (λ b. b.session == session) blocked.now) }
-{
-    blocked.iter().filter(|b| b.session == session).count()
 }
 
 fn count_asked(commits: &[Commit], session: u64) -> usize
@@ -84,9 +71,9 @@ pub fn close(state: &mut Core, session: u64)
     let sessions = &mut state.sessions;
     drop_session(&mut sessions.items, session);
     let blocked = &mut state.blocked;
-    drop_blocked(&mut blocked.items, session);
+    blocked.remove_of(session);
     let registrations = &mut state.registrations;
-    drop_registrations(&mut registrations.items, session);
+    registrations.remove_of(session);
     let sets = &mut state.sets;
     drop_sets(&mut sets.items, session);
 }
@@ -95,18 +82,6 @@ fn drop_session(sessions: &mut Vec<Session>, session: u64)
     ensures { sessions.new.items ≡ filter (λ k. not (k.number == session)) sessions.old.items }
 {
     sessions.retain(|k| !(k.number == session));
-}
-
-fn drop_blocked(blocked: &mut Vec<Blocked>, session: u64)
-    ensures { blocked.new.items ≡ filter (λ b. not (b.session == session)) blocked.old.items }
-{
-    blocked.retain(|b| !(b.session == session));
-}
-
-fn drop_registrations(registrations: &mut Vec<Registration>, session: u64)
-    ensures { registrations.new.items ≡ filter (λ r. not (r.session == session)) registrations.old.items }
-{
-    registrations.retain(|r| !(r.session == session));
 }
 
 fn drop_sets(sets: &mut Vec<MatchSet>, session: u64)

@@ -1,11 +1,12 @@
 //! What a request finds in a state. Nothing here takes memory.
-ghost use Rattle.std.specs.Prelude.{◌≡◌, ◌==◌, length};
+ghost use Rattle.std.specs.Prelude.{◌≡◌, ◌==◌, not, length};
 ghost use Rattle.jsp_model.specs.Sight.{available, has_conflict as held_up};
 ghost use Rattle.jsp_model.specs.Quiet.{must_wait as waits};
 
 use jsp_core::Core;
 use jsp_model::Blocked;
 use jsp_sight::is_if;
+use jsp_table::Test;
 
 /// Whether the request has to wait: there is no row for it, and if it waits for a conflict alone
 /// there is one (when it waits is this profile's own).
@@ -28,4 +29,32 @@ pub fn has_conflict(state: &Core, blocked: &Blocked) -> bool
     ensures { result ≡ held_up state.now blocked.now }
 {
     state.rows.has_conflict(&state.classes, blocked)
+}
+
+/// Whether a request has to wait no longer.
+#[derive(Drop)]
+pub struct Answerable<'a> {
+    pub state: &'a Core,
+}
+
+impl<'a> Test<Blocked> for Answerable<'a> {
+    ghost is_passed = { λ s b. not (waits s.state.now b) };
+
+    fn passes(&self, blocked: &Blocked) -> bool {
+        !must_wait(self.state, blocked)
+    }
+}
+
+/// Whether there is a row that a request may be given.
+#[derive(Drop)]
+pub struct Grantable<'a> {
+    pub state: &'a Core,
+}
+
+impl<'a> Test<Blocked> for Grantable<'a> {
+    ghost is_passed = { λ s b. not (length (available s.state.now b) == 0) };
+
+    fn passes(&self, blocked: &Blocked) -> bool {
+        !has_none(self.state, blocked)
+    }
 }

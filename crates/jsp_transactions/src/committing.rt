@@ -4,7 +4,6 @@ ghost use Rattle.jsp_model.specs.Changes.{commit as after_commit, ask_commit as 
 ghost use Rattle.jsp_transactions.specs.Owing.{with_news};
 
 use crate::aborting::{forget, leave_active};
-use crate::owing::owe_all;
 use jsp_core::Core;
 use jsp_model::Commit;
 use jsp_types::NoMemory;
@@ -52,15 +51,10 @@ fn owe_published(alloc: Global, state: &mut Core, x: u64) -> Result<(), NoMemory
     ensures ok { OnOk result (state.new ≡ with_news state.old x) }
     ensures err { OnErr result (state.new ≡ state.old) }
 {
-    if state.registrations.as_slice().is_empty() {
+    if state.registrations.len() == 0 {
         return Ok(());
     }
     let published = state.rows.published(alloc, x)?;
     let registrations = &mut state.registrations;
-    owe_all(
-        &state.classes,
-        &mut registrations.items,
-        published.as_slice(),
-        None,
-    )
+    registrations.owe_all(&state.classes, published.as_slice(), None)
 }

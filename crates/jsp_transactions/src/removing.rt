@@ -5,7 +5,7 @@ ghost use Rattle.jsp_model.specs.Changes.{remove as removed};
 use crate::aborting::abort;
 use jsp_core::Core;
 use jsp_lease::Rank;
-use jsp_model::{Blocked, MatchSet, Registration};
+use jsp_model::MatchSet;
 
 /// What has this rank and number goes, since its lease ended or was cancelled or its time is up. A
 /// transaction aborts (Jini Leasing, Jini Transactions). Takes no memory.
@@ -19,30 +19,18 @@ pub fn remove(state: &mut Core, rank: Rank, number: u64)
         }
         Rank::Registration => {
             let registrations = &mut state.registrations;
-            drop_registration(&mut registrations.items, number);
+            registrations.remove(number);
         }
         Rank::Transaction => abort(state, number),
         Rank::Blocked => {
             let blocked = &mut state.blocked;
-            drop_blocked(&mut blocked.items, number);
+            blocked.remove(number);
         }
         Rank::MatchSet => {
             let sets = &mut state.sets;
             drop_set(&mut sets.items, number);
         }
     }
-}
-
-fn drop_registration(registrations: &mut Vec<Registration>, number: u64)
-    ensures { registrations.new.items ≡ filter (λ r. not (r.number == number)) registrations.old.items }
-{
-    registrations.retain(|r| !(r.number == number));
-}
-
-fn drop_blocked(blocked: &mut Vec<Blocked>, number: u64)
-    ensures { blocked.new.items ≡ filter (λ b. not (b.number == number)) blocked.old.items }
-{
-    blocked.retain(|b| !(b.number == number));
 }
 
 fn drop_set(sets: &mut Vec<MatchSet>, number: u64)

@@ -1,12 +1,12 @@
 //! A space is reset. Nothing here takes memory.
-ghost use Rattle.std.specs.Prelude.{◌≡◌, ◌==◌, ◌&&◌, ◌-◌, ◌^◌, nat_le, not, filter, is_some, IsTrue};
+ghost use Rattle.std.specs.Prelude.{◌≡◌, ◌==◌, ◌-◌, ◌^◌, nat_le, not, filter, IsTrue};
 ghost use Rattle.std.specs.List.{list_all};
 ghost use Rattle.jsp_model.specs.Changes.{reset as after_reset};
 ghost use Rattle.jsp_transactions.specs.Resetting.{counted};
 ghost use Rattle.jsp_model.specs.declared.limits.TheConstants.{LAST_CRASH_COUNT};
 
 use jsp_core::Core;
-use jsp_model::{Blocked, MatchSet, Registration, Space};
+use jsp_model::{MatchSet, Space};
 
 /// The space starts anew, as after a crash (this profile's own): its rows, registrations and match
 /// sets go, and the requests under a transaction that wait there; those without one go on waiting.
@@ -21,9 +21,9 @@ pub fn reset(state: &mut Core, space: u64)
     let rows = &mut state.rows;
     rows.clear(space);
     let registrations = &mut state.registrations;
-    drop_registrations(&mut registrations.items, space);
+    registrations.clear(space);
     let blocked = &mut state.blocked;
-    drop_blocked(&mut blocked.items, space);
+    blocked.clear(space);
     let sets = &mut state.sets;
     drop_sets(&mut sets.items, space);
 }
@@ -37,18 +37,6 @@ fn count_crash(spaces: &mut [Space], space: u64)
         let found = &mut spaces[place];
         found.crash_count += 1;
     }
-}
-
-fn drop_registrations(registrations: &mut Vec<Registration>, space: u64)
-    ensures { registrations.new.items ≡ filter (λ r. not (r.space == space)) registrations.old.items }
-{
-    registrations.retain(|r| !(r.space == space));
-}
-
-fn drop_blocked(blocked: &mut Vec<Blocked>, space: u64)
-    ensures { blocked.new.items ≡ filter (λ b. not (b.space == space && is_some b.transaction)) blocked.old.items }
-{
-    blocked.retain(|b| !(b.space == space && b.transaction.is_some()));
 }
 
 fn drop_sets(sets: &mut Vec<MatchSet>, space: u64)

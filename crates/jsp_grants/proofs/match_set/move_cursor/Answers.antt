@@ -1,6 +1,6 @@
 use Rattle.std.proofs.Common.{◌∙◌, ap, sym, set}
 use Rattle.jsp_model.specs.declared.state.MatchSet.{MatchSet}
-use Rattle.jsp_store.proofs.Unique.{update_at, update_none}
+use Rattle.jsp_sight.proofs.Unique.{update_at, update_none}
 use Rattle.jsp_grants.specs.Paging.{to_cursor}
 use Rattle.jsp_grants.proofs.match_set.move_cursor.Goals as goal
 

@@ -1,4 +1,4 @@
-use Rattle.jsp_store.proofs.Places.{one_more}
+use Rattle.jsp_sight.proofs.Places.{one_more}
 use Rattle.jsp_requests.specs.Ending.{transaction_ending}
 use Rattle.jsp_requests.proofs.extend.extend_transactions.Goals as goal
 

@@ -1,6 +1,6 @@
 use Rattle.std.proofs.Common.{◌∙◌}
 use Rattle.jsp_sight.specs.Rows.{row_end}
-use Rattle.jsp_store.proofs.Earliest.{first_is_sooner}
+use Rattle.jsp_sight.proofs.Earliest.{first_is_sooner}
 use Rattle.jsp_store.proofs.scanned.first_over.Goals as goal
 
 pub returns : goal.returns

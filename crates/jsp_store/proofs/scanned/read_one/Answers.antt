@@ -2,7 +2,7 @@ use Rattle.std.proofs.Common.{◌∙◌, ap, sym, set}
 use Rattle.std.proofs.lemmas.Result.{on_ok_weaker}
 use Rattle.jsp_model.specs.declared.state.Row.{Row}
 use Rattle.jsp_sight.specs.Rows.{with_reader}
-use Rattle.jsp_store.proofs.Unique.{update_at, update_none}
+use Rattle.jsp_sight.proofs.Unique.{update_at, update_none}
 use Rattle.jsp_store.proofs.scanned.read_one.Goals as goal
 
 pub returns-in-None-clause-ok : goal.returns-in-None-clause-ok

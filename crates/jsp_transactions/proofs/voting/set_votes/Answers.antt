@@ -1,5 +1,5 @@
 use Rattle.jsp_transactions.specs.Voting.{voting}
-use Rattle.jsp_store.proofs.Places.{one_more}
+use Rattle.jsp_sight.proofs.Places.{one_more}
 use Rattle.jsp_transactions.proofs.voting.set_votes.Goals as goal
 
 pub transactions-preserved : goal.transactions-preserved

@@ -1,5 +1,5 @@
 use Rattle.jsp_transactions.specs.Voting.{voting_in}
-use Rattle.jsp_store.proofs.Places.{one_more}
+use Rattle.jsp_sight.proofs.Places.{one_more}
 use Rattle.jsp_transactions.proofs.voting.vote_in.Goals as goal
 
 pub joined-preserved : goal.joined-preserved

@@ -1,0 +1,14 @@
+use Rattle.std.proofs.Common.{◌≡◌, ◌∙◌, ap, rules}
+use Rattle.std.specs.Prelude.{◌==◌, ◌||◌, not, is_some, option_copied}
+use Rattle.std.specs.List.{list_all}
+use Rattle.jsp_model.specs.declared.state.State.{State}
+use Rattle.jsp_model.specs.declared.state.Blocked.{Blocked}
+use Rattle.jsp_model.specs.Quiet.{must_wait}
+use Rattle.jsp_state.proofs.Unsatisfied.{none_is}
+use Rattle.jsp_state.proofs.quiet.all_wait.Goals as goal
+
+pub returns : goal.returns
+returns c =
+    let none : is_some (option_copied c.first_at.result) ≡ not c.is_none.result = search rules in
+    none_is (λ (b : Blocked). b.space == c.args.space) (must_wait c.args.state.now) _ (option_copied c.first_at.result) _ none c.first_at.ensures
+    ∙ ap (λ (st : State). list_all (λ (b : Blocked). not (b.space == c.args.space) || must_wait c.args.state.now b) st.blocked) c.state.view_is
