@@ -37,7 +37,7 @@ tell_progress() {
 }
 
 build() {
-    echo "jsp: building the program, and proving it: some 20 minutes the first time, on four cores ($log)" >&2
+    echo "jsp: building the program, and proving it: an hour and a half the first time, on four cores ($log)" >&2
     : >"$log"
     tell_progress &
     local teller=$! built=yes

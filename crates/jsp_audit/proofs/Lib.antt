@@ -3,3 +3,4 @@ pub mod RunSoFar
 pub mod Sequences
 pub mod Stepping
 pub mod Judging
+pub mod OnOffer

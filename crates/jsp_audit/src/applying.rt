@@ -13,12 +13,13 @@ ghost use Rattle.jsp_model.proofs.Outboxes.{is_hand_out};
 use crate::asking::keeps_its_request;
 use crate::changing::change;
 use crate::judge::refusal_in;
+use crate::offering::offer_let_go;
 use crate::saying::said_judged;
 use jsp_core::{Core, LiveImage};
 use jsp_model::Step;
 use jsp_outbox::Posted;
 use jsp_reply::{Refusal, Said};
-use jsp_state::{close, hand_out as hand_out_of};
+use jsp_state::{close, hand_out as hand_out_of, withdraw};
 use jsp_types::NoMemory;
 use std::alloc::Global;
 
@@ -51,9 +52,39 @@ pub fn apply_judged(
         let _answers = hand_out(alloc, image, *session, *count as usize)?;
         return Ok(());
     }
+    make_and_offer(alloc, image, step, refused)?;
+    withdraw(image);
+    Ok(())
+}
+
+/// Makes a step, and offers what it writes and lets go to the requests that wait.
+fn make_and_offer(
+    alloc: Global,
+    image: &mut LiveImage,
+    step: &Step,
+    refused: Option<Refusal>,
+) -> Result<(), NoMemory>
+    requires legal { IsTrue (is_legal image.old step.now) }
+    requires refused { refused ≡ refused_in image.old step.now }
+    requires no_hand_out { is_hand_out step.now ≡ false }
+    ensures ok { OnOk result (image.new ≡ next image.old step.now) }
+    ensures err { OnErr result (image.new ≡ image.old) }
+    ensures limits { IsWithinLimits image.new }
+{
     keeps_its_request(step);
     let sayings = said_judged(alloc, image, step, refused)?;
-    make(alloc, &mut image.state, step, refused, sayings)
+    let first_new = next_number(&image.state);
+    offer_let_go(alloc, &image.state, &mut image.offers, step);
+    let made = make(alloc, &mut image.state, step, refused, sayings);
+    let past_new = next_number(&image.state);
+    image.offers.add_between(first_new, past_new);
+    made
+}
+
+fn next_number(state: &Core) -> u64
+    ensures { result ≡ state.now.next_number }
+{
+    state.next_number
 }
 
 /// Posts what a step says and makes its change. Where the change is refused memory, what was posted

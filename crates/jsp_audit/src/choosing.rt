@@ -8,7 +8,7 @@ ghost use Rattle.jsp_model.specs.declared.limits.TheConstants.{LAST_TIME};
 
 use crate::asking::ask_of;
 use crate::touching::{are_quiet, ask_touches};
-use jsp_core::Core;
+use jsp_core::{Core, LiveImage};
 use jsp_entries::blocked_named;
 use jsp_requests::{refusal, request_for_rows};
 use jsp_state::{due, has_conflict, has_none, is_choice, is_if, is_open};
@@ -20,20 +20,20 @@ use std::alloc::Global;
 #[tactic(auto, unfolding(jsp_model::specs::Steps::is_legal, jsp_model::specs::Touches::touches))]
 pub(crate) fn may_ask(
     alloc: Global,
-    state: &Core,
+    image: &LiveImage,
     session: u64,
     asked: &Asked,
     rows: &[u64],
 ) -> Result<bool, NoMemory>
-    requires { state.now.time ≤ LAST_TIME }
-    ensures { IfOk result (λ b. b ≡ legal state.now (step.Ask session asked.now rows.now)) }
+    ensures { IfOk result (λ b. b ≡ legal image.now (step.Ask session asked.now rows.now)) }
 {
+    let state = image.state();
     let spaces = ask_touches(alloc, state, asked.ask())?;
     let has_rows = has_its_rows(alloc, state, session, asked, rows)?;
     Ok(
         is_open(state, session)
             && due(state).is_none()
-            && are_quiet(state, spaces.as_slice())
+            && are_quiet(image, spaces.as_slice())
             && has_rows,
     )
 }

@@ -7,7 +7,7 @@ ghost use Rattle.jsp_model.specs.Lookup.{joined_of, joined_at as joined_in};
 ghost use Rattle.jsp_model.specs.Steps.{is_legal as legal, is_vote_to_abort as says_to_abort, is_vote_to_commit as says_to_commit};
 
 use crate::touching::{are_quiet, item_touches};
-use jsp_core::Core;
+use jsp_core::{Core, LiveImage};
 use jsp_lease::is_item;
 use jsp_model::{Item, Joined, Vote};
 use jsp_state::{due, is_voting, joined_at, transaction_of};
@@ -16,23 +16,25 @@ use std::alloc::Global;
 
 /// Only the least due item ends, and only where each space that its end touches is quiet.
 #[tactic(auto, unfolding(jsp_model::specs::Steps::is_legal, jsp_model::specs::Touches::touches))]
-pub(crate) fn may_end(alloc: Global, state: &Core, item: Item) -> Result<bool, NoMemory>
-    ensures { IfOk result (λ b. b ≡ legal state.now (step.Due item)) }
+pub(crate) fn may_end(alloc: Global, image: &LiveImage, item: Item) -> Result<bool, NoMemory>
+    ensures { IfOk result (λ b. b ≡ legal image.now (step.Due item)) }
 {
+    let state = image.state();
     let spaces = item_touches(alloc, state, item.number)?;
     match due(state) {
         None => Ok(false),
-        Some(first) => Ok(is_item(item, first) && are_quiet(state, spaces.as_slice())),
+        Some(first) => Ok(is_item(item, first) && are_quiet(image, spaces.as_slice())),
     }
 }
 
 /// A space that joined a voting transaction votes once, while it is quiet (Jini Transactions; that it
 /// is quiet is this profile's own).
 #[tactic(auto, unfolding(jsp_model::specs::Steps::is_legal, jsp_model::specs::Touches::touches))]
-pub(crate) fn may_vote(state: &Core, x: u64, space: u64) -> bool
-    ensures { result ≡ legal state.now (step.Vote x space) }
+pub(crate) fn may_vote(image: &LiveImage, x: u64, space: u64) -> bool
+    ensures { result ≡ legal image.now (step.Vote x space) }
 {
-    is_voting(state, x) && has_not_voted(state, x, space) && are_quiet(state, &[space])
+    let state = image.state();
+    is_voting(state, x) && has_not_voted(state, x, space) && are_quiet(image, &[space])
 }
 
 fn has_not_voted(state: &Core, x: u64, space: u64) -> bool

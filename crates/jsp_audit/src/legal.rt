@@ -26,7 +26,7 @@ pub fn is_legal(alloc: Global, image: &LiveImage, step: &Step) -> Result<bool, N
             session,
             asked,
             rows,
-        } => may_ask(alloc, state, *session, asked, rows.as_slice()),
+        } => may_ask(alloc, image, *session, asked, rows.as_slice()),
         Step::Fault {
             session,
             id,
@@ -35,8 +35,8 @@ pub fn is_legal(alloc: Global, image: &LiveImage, step: &Step) -> Result<bool, N
         Step::Grant { blocked, rows } => Ok(may_grant(state, *blocked, rows.as_slice())),
         Step::Empty { blocked } => Ok(may_say_nothing(state, *blocked)),
         Step::Tell { registration } => Ok(may_tell(state, *registration)),
-        Step::Due { item } => may_end(alloc, state, *item),
-        Step::Vote { transaction, space } => Ok(may_vote(state, *transaction, *space)),
+        Step::Due { item } => may_end(alloc, image, *item),
+        Step::Vote { transaction, space } => Ok(may_vote(image, *transaction, *space)),
         Step::Decide {
             transaction,
             commits,

@@ -20,11 +20,10 @@ mod deciding;
 mod emptiness;
 mod judge;
 mod legal;
+mod offering;
 mod replaying;
 mod saying;
 mod telling;
-#[cfg(test)]
-mod tests;
 mod touching;
 
 pub use applying::{apply, apply_judged, hand_out, shut};

@@ -72,12 +72,27 @@ pub fn replay_from(alloc: Global, base: &Image, steps: &[Step]) -> Result<Replay
     ensures illegal { IfErr result (λ e. FailsAt e (first_illegal base.now steps.now)) }
 {
     let mut image = LiveImage::of(alloc, base.copy(alloc)?, Keeping::Hinted { seed: 0 })?;
+    let said = run_steps(alloc, &mut image, steps)?;
+    Ok(Replayed { image, said })
+}
+
+/// Runs the steps, and answers what they say.
+fn run_steps(
+    alloc: Global,
+    image: &mut LiveImage,
+    steps: &[Step],
+) -> Result<Vec<(u64, Said)>, ReplayFault>
+    ensures run { OnOk result (IsRun image.old steps.now) }
+    ensures image { OnOk result (image.new ≡ state_after image.old steps.now) }
+    ensures said { IfOk result (λ told. told.items ≡ said_in image.old steps.now) }
+    ensures illegal { IfErr result (λ e. FailsAt e (first_illegal image.old steps.now)) }
+{
     let mut told = Vec::new(alloc);
     for (place, step) in steps.iter().enumerate() {
-        check_step(alloc, &image, step, place)?;
-        make_step(alloc, &mut image, &mut told, step)?;
+        check_step(alloc, image, step, place)?;
+        make_step(alloc, image, &mut told, step)?;
     }
-    Ok(Replayed { image, said: told })
+    Ok(told)
 }
 
 /// Fails with the step's place where it isn't legal.

@@ -28,10 +28,10 @@ pub fn touches(alloc: Global, image: &LiveImage, step: &Step) -> Result<Items<u6
 }
 
 /// Whether each of the spaces is quiet: it owes nothing.
-pub fn are_quiet(state: &Core, spaces: &[u64]) -> bool
-    ensures { result ≡ all_quiet state.now spaces.now }
+pub fn are_quiet(image: &LiveImage, spaces: &[u64]) -> bool
+    ensures { result ≡ all_quiet image.now spaces.now }
 {
-    spaces.iter().all(|space| is_quiet(state, *space))
+    spaces.iter().all(|space| is_quiet(image, *space))
 }
 
 /// The spaces that a request touches.

@@ -1,5 +1,5 @@
 //! What a run answers.
-use jsp_audit::ReplayFault;
+use jsp_kept::ReplayFault;
 use jsp_model::{Image, Step};
 use jsp_types::NoMemory;
 

@@ -7,8 +7,7 @@ use crate::closed::{Closed, Fault, LineReport, RunFault};
 use crate::leaving::check_lines;
 use crate::resting::is_at_rest;
 use crate::writing::check_written;
-use jsp_audit::{Replayed, replay};
-use jsp_kept::Era;
+use jsp_kept::{Era, Replayed, replay};
 use jsp_model::{Config, Step};
 use std::alloc::Global;
 
@@ -62,7 +61,7 @@ pub(crate) fn close_whole(
     let steps = ask_again(alloc, reports.as_slice(), &mut lines, steps)?;
     let Replayed { image, said } = replay(alloc, config, steps.as_slice())?;
     let state = image.state();
-    if !is_at_rest(state) || state.last_session != reports.len() as u64 {
+    if !is_at_rest(&image) || state.last_session != reports.len() as u64 {
         return Err(Fault::Differs);
     }
     check_lines(

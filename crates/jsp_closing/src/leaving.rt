@@ -9,9 +9,9 @@ ghost use Rattle.jsp_closing.specs.Asking.{HaveGiven, SaysMore};
 ghost use Rattle.jsp_closing.specs.Leaving.{AllAsk, AsksIn, Marks, TellShut};
 
 use crate::closed::{Ended, Fault, LineReport};
-use jsp_audit::is_open;
 use jsp_core::Core;
 use jsp_drive::{Line, Next};
+use jsp_kept::is_open;
 use jsp_model::Step;
 use jsp_types::NoMemory;
 use std::alloc::Global;

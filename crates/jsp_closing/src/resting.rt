@@ -5,19 +5,19 @@ ghost use Rattle.jsp_model.specs.Quiet.{is_quiet as quiet};
 ghost use Rattle.jsp_model.specs.Settling.{places};
 ghost use Rattle.jsp_closing.specs.Closing.{IsAtRest};
 
-use jsp_audit::is_quiet;
-use jsp_core::Core;
+use jsp_core::LiveImage;
+use jsp_kept::is_quiet;
 
 /// Whether no transaction votes, and every space is quiet.
-pub(crate) fn is_at_rest(state: &Core) -> bool
-    ensures { result ≡ true → IsAtRest state.now }
+pub(crate) fn is_at_rest(image: &LiveImage) -> bool
+    ensures { result ≡ true → IsAtRest image.now }
 {
-    state.commits.as_slice().is_empty() && are_all_quiet(state)
+    image.state().commits.as_slice().is_empty() && are_all_quiet(image)
 }
 
-fn are_all_quiet(state: &Core) -> bool
-    ensures { result ≡ list_all (quiet state.now) (places state.now) }
+fn are_all_quiet(image: &LiveImage) -> bool
+    ensures { result ≡ list_all (quiet image.now) (places image.now) }
 {
-    let count = state.spaces.as_slice().len() as u64;
-    (0..count).all(|space| is_quiet(state, space))
+    let count = image.state().spaces.as_slice().len() as u64;
+    (0..count).all(|space| is_quiet(image, space))
 }

@@ -8,8 +8,10 @@
 #![tactic(auto)]
 
 mod live;
+mod offers;
 mod state;
 
 pub use jsp_store::Keeping;
 pub use live::LiveImage;
+pub use offers::Offers;
 pub use state::Core;

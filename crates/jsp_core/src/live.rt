@@ -2,30 +2,34 @@
 ghost use Rattle.std.specs.Prelude.{◌≡◌, IfOk};
 ghost use Rattle.jsp_model.specs.Limits.{IsWithinLimits};
 
-use crate::Core;
+use crate::{Core, Offers};
 use jsp_model::Image;
 use jsp_store::Keeping;
 use jsp_types::NoMemory;
 use std::alloc::Global;
 use std::marker::Model;
 
-/// A state within its limits, to be searched and changed. Contracts see it as the state.
+/// A state within its limits, to be searched and changed. Contracts see it as the state. No waiting
+/// request may be given a row that isn't on offer.
 ///
-/// Whoever changes the state shows the limits again.
+/// Whoever changes the state shows both again.
 #[derive(Drop)]
 pub struct LiveImage {
     pub state: Core,
+    pub offers: Offers,
 }
 
 impl Model for LiveImage {
     ghost use Rattle.jsp_model.specs.declared.state.State.{State};
     ghost use Rattle.jsp_model.specs.Limits.{IsWithinLimits};
+    ghost use Rattle.std.specs.Prelude.{IsTrue};
+    ghost use Rattle.jsp_core.specs.Offering.{are_offered};
 
     ghost Value = { State };
 
     ghost view = { λ a. a.state };
 
-    ghost invariant = { λ a. IsWithinLimits a.state };
+    ghost invariant = { λ a. IsWithinLimits a.state × IsTrue (are_offered a.offers a.state) };
 }
 
 impl LiveImage {
@@ -35,7 +39,10 @@ impl LiveImage {
     {
         let Image { state } = image;
         let state = Core::of(alloc, state, keeping)?;
-        Ok(LiveImage { state })
+        Ok(LiveImage {
+            state,
+            offers: Offers::any(alloc),
+        })
     }
 
     /// The image of it, kept plain.

@@ -2,9 +2,8 @@
 ghost use Rattle.std.specs.Prelude.{◌≤◌};
 
 use crate::{Clock, Closed, Door, Ended, Gate, Knock, run_house};
-use jsp_audit::{replay, replay_from};
 use jsp_model::Config;
-use jsp_rows::RowsHouse;
+use jsp_rows::{RowsHouse, replay, replay_from};
 use jsp_types::{Items, Text};
 use std::alloc::Global;
 use std::io::{self, ErrorKind, Read, Write};

@@ -9,3 +9,5 @@
 mod hall;
 
 pub use hall::Hall;
+// What the calls of a house speak of, so that its callers name one crate.
+pub use jsp_rows::{ReplayFault, RowsHouse, replay};

@@ -1,7 +1,7 @@
 -- Rows that transactions hold, and what becomes of them.
-use Rattle.std.proofs.Common.{◌≡◌, ◌≢◌, ℕ, ◌+◌, ◌<◌, Bool, true, false, not, cond, ◌&&◌, ◌||◌, eqb, List, [], ◌∷◌, ◌++◌, length, take, get_or, Option, Some, None, refl, ap, ◌∙◌, subst, inl, inr}
-use Rattle.std.specs.Prelude.{filter, map}
-use Rattle.std.specs.List.{AllByRecursion, filter_map, cons_option}
+use Rattle.std.proofs.Common.{◌≡◌, ◌≢◌, ℕ, ◌+◌, ◌<◌, Bool, true, false, not, cond, ◌&&◌, ◌||◌, eqb, List, [], ◌∷◌, ◌++◌, length, take, get_or, Option, Some, None, refl, ap, ◌∙◌, subst, inl, inr, eqb-true}
+use Rattle.std.specs.Prelude.{filter, map, ◌==◌}
+use Rattle.std.specs.List.{AllByRecursion, filter_map, cons_option, list_all}
 use Rattle.std.specs.HashMap.{HashMap}
 use Rattle.std.proofs.lemmas.List.{take_more}
 use Rattle.std.proofs.lemmas.Bool.{cases_eq, eq-eqb, ne_eqb}
@@ -234,3 +234,28 @@ module _ {S : Type 0} where
     last : (b : Bool) → (b && false) ≡ false
     last true = refl
     last false = refl
+
+-- ---- the numbers of what a transaction holds
+
+read_named : {S : Type 0} (holders : HashMap ℕ (List ℕ) S) (x n : ℕ) (readers : List ℕ) → has readers x ≡ true → AllByRecursion (λ y. names holders y n ≡ true) readers → names holders x n ≡ true
+read_named holders x n [] e h = absurd (cc)
+read_named {S = S} holders x n (y ∷ ys) e h = go (y == x) refl e (read_named holders x n ys)
+  where
+    go : (b : Bool) → (y == x) ≡ b → (b || has ys x) ≡ true → (has ys x ≡ true → AllByRecursion (λ y. names holders y n ≡ true) ys → names holders x n ≡ true) → names holders x n ≡ true
+    go true k q ih = subst (λ z. names holders z n ≡ true) (eqb-true y x k) h.0
+    go false k q ih = ih q h.1
+
+held_one : {S : Type 0} (holders : HashMap ℕ (List ℕ) S) (x : ℕ) (ns : List ℕ) (r : Row) → ((n : ℕ) → names holders x n ≡ true → has ns n ≡ true) → IsHeld holders r
+    → (not (is_caller r.writer x || is_caller r.taker x || has r.readers x) || has ns r.number) ≡ true
+held_one holders x ns r all h = go (is_caller r.writer x) refl (is_caller r.taker x) refl (has r.readers x) refl
+  where
+    go : (a : Bool) → is_caller r.writer x ≡ a → (b : Bool) → is_caller r.taker x ≡ b → (d : Bool) → has r.readers x ≡ d → (not (a || b || d) || has ns r.number) ≡ true
+    go true e b f d g = all r.number (h.by_writer x e)
+    go false e true f d g = all r.number (h.by_taker x f)
+    go false e false f true g = all r.number (read_named holders x r.number r.readers g h.by_reader)
+    go false e false f false g = refl
+
+pub held_all : {S : Type 0} (holders : HashMap ℕ (List ℕ) S) (x : ℕ) (ns : List ℕ) (rows : List Row) → ((n : ℕ) → names holders x n ≡ true → has ns n ≡ true) → AreHeld holders rows
+    → list_all (λ (r : Row). not (is_caller r.writer x || is_caller r.taker x || has r.readers x) || has ns r.number) rows ≡ true
+held_all holders x ns [] all h = refl
+held_all holders x ns (r ∷ rows) all h = rw (held_one holders x ns r all h.0) (held_all holders x ns rows all h.1)

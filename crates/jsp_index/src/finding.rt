@@ -1,6 +1,6 @@
 //! What is found among rows by hints. Only what answers in lists takes memory.
-ghost use Rattle.std.specs.Prelude.{◌≡◌, ◌==◌, ◌&&◌, ◌||◌, ◌≤◌, ℕ, true, map, filter, take, length, slice_get, Bool, None, IfOk};
-ghost use Rattle.std.specs.List.{list_any, last_or};
+ghost use Rattle.std.specs.Prelude.{◌≡◌, ◌==◌, ◌&&◌, ◌||◌, ◌≤◌, ℕ, true, not, map, filter, take, length, slice_get, Bool, None, IfOk};
+ghost use Rattle.std.specs.List.{list_any, list_all, last_or};
 ghost use Rattle.std.specs.Fn.{FnReturnsAt};
 ghost use Rattle.jsp_lease.specs.Due.{first_item, over_by};
 ghost use Rattle.jsp_model.specs.declared.state.Row.{Row as OfRow};
@@ -222,6 +222,17 @@ impl HintedRows {
             None => false,
             Some(_) => true,
         }
+    }
+
+    /// Numbers among which are those of all rows that the transaction wrote, took or read.
+    pub fn held_by(&self, alloc: Global, x: u64) -> Result<Vec<u64>, NoMemory>
+        ensures { IfOk result (λ v. list_all (λ r. not (calls r.writer x || calls r.taker x || has r.readers x) || has v.items r.number) self.now ≡ true) }
+    {
+        let Some(numbers) = self.holders.get(&x) else {
+            return Ok(Vec::new(alloc));
+        };
+        let copies = numbers.to_vec(alloc)?;
+        Ok(copies)
     }
 
     /// Copies of the rows that a commit of the transaction publishes.

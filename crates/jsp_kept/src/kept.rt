@@ -6,8 +6,8 @@ ghost use Rattle.jsp_model.specs.House.{Makes, shuts, next_waiting, awaits_decis
 ghost use Rattle.jsp_kept.specs.History.{IsKept, new_history};
 ghost use Rattle.jsp_kept.specs.Calls.{KeepsEra, KeepsAsks, KeepsOuts, Seals};
 
-use jsp_audit::empty_image;
 use jsp_model::{Config, House, Image, Step};
+use jsp_rows::empty_image;
 use jsp_types::{NoMemory, Text};
 use std::alloc::Global;
 use std::marker::Model;

@@ -1,8 +1,7 @@
 //! `jsp listen`: a server over TCP.
 use crate::arguments::{ADDRESS, ERA, LINES, LONGEST_ERA, MOST_LINES, USUAL_ERA};
 use clap::ArgMatches;
-use jsp_rows::Config;
-use jsp_serve::{RunFault, serve};
+use jsp_serve::{Config, RunFault, serve};
 use std::io::{self, Write};
 use std::net::{Net, TcpListener, TcpStream};
 use std::process::ExitCode;

@@ -1,5 +1,5 @@
 -- What each waiting request is over a step, if each was so and each new one is. So each asks for at least one row, if it was asked so.
-use Rattle.std.proofs.Common.{◌≡◌, sym, subst, ℕ, ℤ, ◌+◌, ◌≤◌, List, [], ◌∷◌, true, Option, Some, None, is_some, nat_le}
+use Rattle.std.proofs.Common.{◌≡◌, refl, sym, subst, ℕ, ℤ, ◌+◌, ◌≤◌, List, [], ◌∷◌, true, false, Option, Some, None, is_some, nat_le, Bool, cond}
 use Rattle.std.specs.Prelude.{IfSome}
 use Rattle.std.specs.Option.{option_map_or}
 use Rattle.std.proofs.lemmas.Bool.{leb-true}
@@ -30,9 +30,9 @@ use Rattle.jsp_quiet.proofs.Placed.{choose}
 abbrev AllBlocked : (Blocked → Type 0) → State → Type 0
 AllBlocked P st = Each P st.blocked
 
--- a request for rows that the step asks is so, if it waits
+-- a request for rows that the step asks is so, if it has to wait
 abbrev pub Asked : (Blocked → Type 0) → State → Step → Type 0
-Asked P st (step.Ask s asked ns) = IfSome (rows_asked asked.ask) (λ q. P (as_blocked st s asked.id q))
+Asked P st (step.Ask s asked ns) = IfSome (rows_asked asked.ask) (λ q. would_block st s asked.id q ≡ true → P (as_blocked st s asked.id q))
 Asked P st _ = Unit {0}
 
 blocked_join : (P : Blocked → Type 0) (st : State) (o : Option ℕ) (space : ℕ) → AllBlocked P st → AllBlocked P (join st o space)
@@ -69,14 +69,19 @@ blocked_cancel P st lease h = go (rank_of st (named lease))
 blocked_write : (P : Blocked → Type 0) (st : State) (w : WriteRequest) → AllBlocked P st → AllBlocked P (write st w)
 blocked_write P st w h = fold_keeps (AllBlocked P) (λ b raw. add_row b (new_row b w raw)) (λ b raw k. k) w.entries (join st (caller_of w.txn) (place_of st w.space)) (blocked_join P st (caller_of w.txn) (place_of st w.space) h)
 
-blocked_seek : (P : Blocked → Type 0) (st : State) (s id : ℕ) (q : RowRequest) (ns : List ℕ) → P (as_blocked st s id q) → AllBlocked P st → AllBlocked P (give_or_block st s id q ns)
+-- what both cases have, each where it is met
+pub choose_by : (P : State → Type 0) (d : Bool) (x y : State) → (d ≡ true → P x) → (d ≡ false → P y) → P (cond d x y)
+choose_by P true x y p q = p refl
+choose_by P false x y p q = q refl
+
+blocked_seek : (P : Blocked → Type 0) (st : State) (s id : ℕ) (q : RowRequest) (ns : List ℕ) → (would_block st s id q ≡ true → P (as_blocked st s id q)) → AllBlocked P st → AllBlocked P (give_or_block st s id q ns)
 blocked_seek P st s id q ns p h =
     let b = as_blocked st s id q in
     let joined = join st (caller_of q.txn) (place_of st q.space) in
     let k : AllBlocked P joined = blocked_join P st (caller_of q.txn) (place_of st q.space) h in
-    choose (AllBlocked P) (would_block st s id q) (block joined b) (give joined b ns) (each_append P joined.blocked (b ∷ []) k (p, tt)) k
+    choose_by (AllBlocked P) (would_block st s id q) (block joined b) (give joined b ns) (λ e. each_append P joined.blocked (b ∷ []) k (p e, tt)) (λ e. k)
 
-blocked_accepted : (P : Blocked → Type 0) (st : State) (s id : ℕ) (ns : List ℕ) (a : Ask) → IfSome (rows_asked a) (λ q. P (as_blocked st s id q)) → AllBlocked P st → AllBlocked P (accepted st s id ns a)
+blocked_accepted : (P : Blocked → Type 0) (st : State) (s id : ℕ) (ns : List ℕ) (a : Ask) → IfSome (rows_asked a) (λ q. would_block st s id q ≡ true → P (as_blocked st s id q)) → AllBlocked P st → AllBlocked P (accepted st s id ns a)
 blocked_accepted P st s id ns (ask.Write w) p h = blocked_write P st (one_entry w) h
 blocked_accepted P st s id ns (ask.Read q) p h = blocked_seek P st s id (one_row form.Read q) ns p h
 blocked_accepted P st s id ns (ask.ReadIf q) p h = blocked_seek P st s id (one_row form.ReadIf q) ns p h
@@ -102,7 +107,7 @@ blocked_accepted P st s id ns (ask.Hello v) p h = h
 blocked_accepted P st s id ns (ask.Next set most) p h = h
 blocked_accepted P st s id ns (ask.CloseSet set) p h = h
 
-blocked_asked : (P : Blocked → Type 0) (st : State) (s id : ℕ) (ns : List ℕ) (a : Ask) (o : Option Refusal) → IfSome (rows_asked a) (λ q. P (as_blocked st s id q)) → AllBlocked P st → AllBlocked P (after_ask st s id ns a o)
+blocked_asked : (P : Blocked → Type 0) (st : State) (s id : ℕ) (ns : List ℕ) (a : Ask) (o : Option Refusal) → IfSome (rows_asked a) (λ q. would_block st s id q ≡ true → P (as_blocked st s id q)) → AllBlocked P st → AllBlocked P (after_ask st s id ns a o)
 blocked_asked P st s id ns a None p h = blocked_accepted P st s id ns a p h
 blocked_asked P st s id ns a (Some why) p h = h
 
@@ -137,9 +142,9 @@ blocked_step P st (step.HandOut s n) p h = h
 abbrev AsksSome : Blocked → Type 0
 AsksSome b = 1 ≤ b.most
 
-some_asked : (st : State) (s id : ℕ) (o : Option RowRequest) → option_map_or (λ q. nat_le 1 q.most) o true ≡ true → IfSome o (λ q. AsksSome (as_blocked st s id q))
+some_asked : (st : State) (s id : ℕ) (o : Option RowRequest) → option_map_or (λ q. nat_le 1 q.most) o true ≡ true → IfSome o (λ q. would_block st s id q ≡ true → AsksSome (as_blocked st s id q))
 some_asked st s id None e = tt
-some_asked st s id (Some q) e = leb-true 1 q.most e
+some_asked st s id (Some q) e = λ w. leb-true 1 q.most e
 
 asked_some : (st : State) (act : Step) → asks_for_some act ≡ true → Asked AsksSome st act
 asked_some st (step.Ask s a ns) e = some_asked st s a.id (rows_asked a.ask) e

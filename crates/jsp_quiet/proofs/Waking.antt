@@ -1,8 +1,8 @@
 -- What goes on waiting over a step, and what comes to wait.
 use Rattle.std.proofs.Common.{◌≡◌, refl, sym, ap, ◌∙◌, subst, ℕ, ℤ, ◌+◌, ◌≤◌, ◌⊎◌, inl, inr, List, [], ◌∷◌, ◌++◌, Bool, true, false, not, cond, ◌||◌, ◌&&◌, filter, fold, Option, Some, None, ◌==◌, append_assoc, append-nil, arith, true≢false}
 use Rattle.std.specs.Option.{option_map_or}
-use Rattle.std.specs.Prelude.{IfSome}
-use Rattle.std.proofs.lemmas.Bool.{or_parts, false_from_ne_true}
+use Rattle.std.specs.Prelude.{IfSome, nat_lt}
+use Rattle.std.proofs.lemmas.Bool.{and_parts, or_parts, false_from_ne_true}
 use Rattle.jsp_types.specs.declared.entry.Raw.{Raw}
 use Rattle.jsp_wire.specs.declared.ask.Ask.{Ask}
 use Rattle.jsp_wire.specs.declared.ask.Ask.TheVariants as ask
@@ -33,7 +33,7 @@ use Rattle.jsp_quiet.proofs.Still.{wanted, waits, waits_within}
 use Rattle.jsp_quiet.proofs.Spaces.{joining}
 use Rattle.jsp_quiet.proofs.Placed.{choose}
 use Rattle.jsp_quiet.proofs.Moves.{SeesNoMarks, Unmarked, unread_same, given_alike, aborted_alike, committed_alike}
-use Rattle.jsp_quiet.proofs.Asking.{Asked, blocked_step}
+use Rattle.jsp_quiet.proofs.Asking.{Asked, blocked_step, choose_by}
 
 -- ---- what a request that waits sees
 
@@ -122,13 +122,13 @@ abbrev NoNew : (Row → Bool) → ℕ → Row → Type 0
 NoNew q n r = n ≤ r.number → q r ≡ false
 
 -- the rows that stand after the old ones have new numbers
-record Added (a b : State) : Type 0 where
-  classes : b.classes ≡ a.classes
-  news : List Row
-  rows : b.rows ≡ a.rows ++ news
-  numbers : Each (λ (r : Row). a.next_number ≤ r.number) news
+pub record Added (a b : State) : Type 0 where
+  pub classes : b.classes ≡ a.classes
+  pub news : List Row
+  pub rows : b.rows ≡ a.rows ++ news
+  pub numbers : Each (λ (r : Row). a.next_number ≤ r.number) news
 
-added_all : (w : WriteRequest) (raws : List Raw) (b : State) → Added b (fold (λ b raw. add_row b (new_row b w raw)) b raws)
+pub added_all : (w : WriteRequest) (raws : List Raw) (b : State) → Added b (fold (λ b raw. add_row b (new_row b w raw)) b raws)
 added_all w [] b = record { classes = refl; news = []; rows = sym (append-nil b.rows); numbers = tt }
 added_all w (raw ∷ raws) b =
     let row : Row = new_row b w raw in
@@ -252,18 +252,44 @@ waiting_stays st act b e w h n =
 
 -- ---- what comes to wait
 
-abbrev OldOrNew : State → Blocked → Type 0
-OldOrNew st b = Has st.blocked b ⊎ (st.next_number ≤ b.number)
+abbrev OldOrNew : State → Step → Blocked → Type 0
+OldOrNew st act b = Has st.blocked b ⊎ ((st.next_number ≤ b.number) × (must_wait (next st act) b ≡ true))
 
-new_asked : (st : State) (s id : ℕ) (o : Option RowRequest) → IfSome o (λ x. OldOrNew st (as_blocked st s id x))
-new_asked st s id None = tt
-new_asked st s id (Some x) = inr (omega arith)
+had_to : (st : State) (s id : ℕ) (x : RowRequest) → would_block st s id x ≡ true → must_wait st (as_blocked st s id x) ≡ true
+had_to st s id x e = (and_parts (nat_lt 0 (named x.timeout)) (must_wait st (as_blocked st s id x)) e).1
 
-asked_new : (st : State) (act : Step) → Asked (OldOrNew st) st act
-asked_new st (step.Ask s a ns) = new_asked st s a.id (rows_asked a.ask)
+waits_sought : (st : State) (s id : ℕ) (x : RowRequest) (ns : List ℕ) → would_block st s id x ≡ true → must_wait (give_or_block st s id x ns) (as_blocked st s id x) ≡ true
+waits_sought st s id x ns e =
+    let b = as_blocked st s id x in
+    let j = joining st (caller_of x.txn) (place_of st x.space) in
+    let k : State = record st { transactions = j.ts } in
+    subst (λ k. must_wait (cond (would_block st s id x) (block k b) (give k b ns)) b ≡ true) (sym j.is)
+    (choose_by (λ k. must_wait k b ≡ true) (would_block st s id x) (block k b) (give k b ns) (λ d. had_to st s id x e) (λ d. absurd (true≢false (sym e ∙ d))))
+
+refused_waits : (st : State) (s id : ℕ) (o : Option RowRequest) → IfSome o (λ x. would_block st s id x ≡ true → must_wait st (as_blocked st s id x) ≡ true)
+refused_waits st s id None = tt
+refused_waits st s id (Some x) = had_to st s id x
+
+asked_waits : (st : State) (s id : ℕ) (ns : List ℕ) (a : Ask) (o : Option Refusal) → IfSome (rows_asked a) (λ x. would_block st s id x ≡ true → must_wait (after_ask st s id ns a o) (as_blocked st s id x) ≡ true)
+asked_waits st s id ns a (Some why) = refused_waits st s id (rows_asked a)
+asked_waits st s id ns (ask.Read x) None = waits_sought st s id (one_row form.Read x) ns
+asked_waits st s id ns (ask.ReadIf x) None = waits_sought st s id (one_row form.ReadIf x) ns
+asked_waits st s id ns (ask.Take x) None = waits_sought st s id (one_row form.Take x) ns
+asked_waits st s id ns (ask.TakeIf x) None = waits_sought st s id (one_row form.TakeIf x) ns
+asked_waits st s id ns (ask.TakeMany x) None = waits_sought st s id (many_rows x) ns
+asked_waits st s id ns _ None = tt
+
+asked_new : (st : State) (act : Step) → Asked (OldOrNew st act) st act
+unfolding next
+asked_new st (step.Ask s a ns) = new (rows_asked a.ask) (asked_waits st s a.id ns a.ask (refusal st s a.id a.ask))
+  where
+    new : (o : Option RowRequest) → IfSome o (λ x. would_block st s a.id x ≡ true → must_wait (after_ask st s a.id ns a.ask (refusal st s a.id a.ask)) (as_blocked st s a.id x) ≡ true)
+        → IfSome o (λ x. would_block st s a.id x ≡ true → OldOrNew st (step.Ask s a ns) (as_blocked st s a.id x))
+    new None h = tt
+    new (Some x) h = λ e. inr (omega arith, h e)
 asked_new st _ = tt
 
-pub waiting_comes : (st : State) (act : Step) (b : Blocked) → Has (next st act).blocked b → Has st.blocked b ⊎ (st.next_number ≤ b.number)
+pub waiting_comes : (st : State) (act : Step) (b : Blocked) → Has (next st act).blocked b → Has st.blocked b ⊎ ((st.next_number ≤ b.number) × (must_wait (next st act) b ≡ true))
 waiting_comes st act b h =
-    let old : Each (OldOrNew st) st.blocked = each_weaker (Has st.blocked) (OldOrNew st) (λ x k. inl k) st.blocked (each_itself st.blocked) in
-    each_has (OldOrNew st) (next st act).blocked b (blocked_step (OldOrNew st) st act (asked_new st act) old) h
+    let old : Each (OldOrNew st act) st.blocked = each_weaker (Has st.blocked) (OldOrNew st act) (λ x k. inl k) st.blocked (each_itself st.blocked) in
+    each_has (OldOrNew st act) (next st act).blocked b (blocked_step (OldOrNew st act) st act (asked_new st act) old) h

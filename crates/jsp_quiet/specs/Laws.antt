@@ -11,7 +11,7 @@ use Rattle.jsp_model.specs.declared.house.Input.{Input}
 use Rattle.jsp_model.specs.declared.house.Stopped.{Stopped}
 use Rattle.jsp_lease.specs.declared.item.Item.{Item}
 use Rattle.jsp_model.specs.Lookup.{empty, contains}
-use Rattle.jsp_model.specs.Sight.{wants, available}
+use Rattle.jsp_model.specs.Sight.{wants, is_available, available}
 use Rattle.jsp_model.specs.Quiet.{must_wait, is_quiet, are_quiet}
 use Rattle.jsp_model.specs.Due.{due}
 use Rattle.jsp_model.specs.Touches.{touches}
@@ -22,6 +22,7 @@ use Rattle.jsp_laws.proofs.Lists.{Each, Has}
 use Rattle.jsp_quiet.specs.Steady.{IsSteady}
 use Rattle.jsp_quiet.specs.Quieting.{stirs, stirred, decides, can_make_due, quiets, owed_events, left_to_say, living, asks_for_some, AllAskForSome, AllSettled}
 use Rattle.jsp_quiet.specs.Waking.{moves, moves_any}
+use Rattle.jsp_quiet.specs.Freeing.{frees_any, WasThere}
 
 -- ---- steady states
 
@@ -73,9 +74,18 @@ WaitingStays =
     → Each (λ (row : Row). st.next_number ≤ row.number → IsFalse (wants st b row)) (next st act).rows
     → IsTrue (must_wait (next st act) b)
 
--- What waits after a step waited before it, or has a new number.
+-- What waits after a step waited before it, or has a new number and must wait.
 abbrev pub WaitingComes : Type 0
-WaitingComes = (st : State) (act : Step) (b : Blocked) → Has (next st act).blocked b → Has st.blocked b ⊎ (st.next_number ≤ b.number)
+WaitingComes =
+    (st : State) (act : Step) (b : Blocked) → Has (next st act).blocked b
+    → Has st.blocked b ⊎ ((st.next_number ≤ b.number) × IsTrue (must_wait (next st act) b))
+
+-- A row that a request may be given after a step is new, or stood before it, and the step let it go or the request might
+-- have been given it before too.
+abbrev pub FreeComes : Type 0
+FreeComes =
+    (st : State) (act : Step) (b : Blocked) (row : Row) → IsFalse (frees_any act) → Has (next st act).rows row
+    → IsTrue (is_available (next st act) b row) → (st.next_number ≤ row.number) ⊎ WasThere st act b row
 
 -- ---- what becomes due
 

@@ -2,7 +2,6 @@
 ghost use Rattle.std.specs.Prelude.{◌≡◌, ◌-◌, ◌++◌, ◌∷◌, [], OnOk, OnErr, Some, IfOk, IfErr, IfSome, IfNone, IsTrue, IsFalse, option_copied, option_map, vec_len, vec_capacity};
 ghost use Rattle.jsp_model.specs.declared.house.Why.TheVariants as why;
 ghost use Rattle.jsp_model.specs.House.{Covers, Goes, MayStop, is_unasked};
-ghost use Rattle.jsp_model.specs.Limits.{IsWithinLimits};
 ghost use Rattle.jsp_model.specs.Due.{due as due_now};
 ghost use Rattle.jsp_model.specs.Quiet.{are_quiet};
 ghost use Rattle.jsp_model.specs.Touches.{touches as touched_by};
@@ -18,7 +17,7 @@ use crate::quieting::quieting_step;
 use crate::to_come::Coming;
 use crate::unquiet::first_unquiet_of;
 use jsp_audit::{due, touches};
-use jsp_core::{Core, LiveImage};
+use jsp_core::LiveImage;
 use jsp_lease::Item;
 use jsp_model::{Step, Why};
 use jsp_reply::Refusal;
@@ -89,7 +88,7 @@ fn next_step<T: Coming>(
     ensures none { IfOk result (λ o. IfNone o (IsDone image.now debt.now (option_map T.step (option_copied to_come.entry)))) }
 {
     let state = image.state();
-    if let Some(step) = quieting_of(alloc, state, debt)? {
+    if let Some(step) = quieting_of(alloc, image, debt)? {
         return Ok(Some(step));
     }
     if let Some(item) = due(state) {
@@ -126,19 +125,18 @@ fn quieting_for<T: Coming>(
     ensures none { IfOk result (λ o. IfNone o (IsTrue (are_quiet image.now (touched_by image.now (T.step coming.now))))) }
 {
     let spaces = coming.touches(alloc, image)?;
-    quieting_of(alloc, image.state(), spaces.as_slice())
+    quieting_of(alloc, image, spaces.as_slice())
 }
 
 /// A step that quiets one of these spaces, the first one in the configured order that isn't quiet.
-fn quieting_of(alloc: Global, state: &Core, spaces: &[u64]) -> Result<Option<Step>, NoMemory>
-    requires { IsWithinLimits state.now }
-    ensures legal { IfOk result (λ o. IfSome o (λ s. IsTrue (is_legal state.now s))) }
+fn quieting_of(alloc: Global, image: &LiveImage, spaces: &[u64]) -> Result<Option<Step>, NoMemory>
+    ensures legal { IfOk result (λ o. IfSome o (λ s. IsTrue (is_legal image.now s))) }
     ensures quiets { IfOk result (λ o. IfSome o (λ s. IsTrue (quiets s))) }
-    ensures some { IfOk result (λ o. IfSome o (λ s. IsFalse (are_quiet state.now spaces.now))) }
-    ensures none { IfOk result (λ o. IfNone o (IsTrue (are_quiet state.now spaces.now))) }
+    ensures some { IfOk result (λ o. IfSome o (λ s. IsFalse (are_quiet image.now spaces.now))) }
+    ensures none { IfOk result (λ o. IfNone o (IsTrue (are_quiet image.now spaces.now))) }
 {
-    match first_unquiet_of(state, spaces) {
+    match first_unquiet_of(image, spaces) {
         None => Ok(None),
-        Some(space) => quieting_step(alloc, state, space),
+        Some(space) => quieting_step(alloc, image, space),
     }
 }

@@ -22,9 +22,6 @@ mod to_come;
 mod unquiet;
 
 // What the calls of a house speak of, so that its callers name one crate.
-pub use jsp_audit::{ReplayFault, Replayed, replay, replay_from};
+pub use jsp_audit::{ReplayFault, Replayed, empty_image, is_open, is_quiet, replay, replay_from};
 pub use jsp_model::{Config, House, Image, Input, Settled, Step, Stopped, Why};
 pub use rows_house::RowsHouse;
-
-#[cfg(test)]
-mod tests;

@@ -1,15 +1,13 @@
 //! What a space that isn't quiet owes next.
 ghost use Rattle.std.specs.Prelude.{◌≡◌, ◌==◌, ◌&&◌, not, length, find, option_copied, IfOk, IfSome, IfNone, IsTrue};
-ghost use Rattle.jsp_model.specs.Sight.{available};
-ghost use Rattle.jsp_model.specs.Quiet.{must_wait as waits, is_quiet};
+ghost use Rattle.jsp_model.specs.Quiet.{is_quiet};
 ghost use Rattle.jsp_model.specs.Steps.{is_legal};
-ghost use Rattle.jsp_model.specs.Limits.{IsWithinLimits};
 ghost use Rattle.jsp_quiet.specs.Quieting.{quiets};
 
 use jsp_audit::choose;
-use jsp_core::Core;
-use jsp_model::{Blocked, Registration, Step};
-use jsp_state::{Answerable, Grantable};
+use jsp_core::{Core, LiveImage};
+use jsp_model::{Registration, Step};
+use jsp_state::{first_answerable, first_grantable};
 use jsp_types::NoMemory;
 use std::alloc::Global;
 
@@ -19,22 +17,22 @@ use std::alloc::Global;
 /// own.
 pub(crate) fn quieting_step(
     alloc: Global,
-    state: &Core,
+    image: &LiveImage,
     space: u64,
 ) -> Result<Option<Step>, NoMemory>
-    requires { IsWithinLimits state.now }
-    ensures legal { IfOk result (λ o. IfSome o (λ s. IsTrue (is_legal state.now s))) }
+    ensures legal { IfOk result (λ o. IfSome o (λ s. IsTrue (is_legal image.now s))) }
     ensures quiets { IfOk result (λ o. IfSome o (λ s. IsTrue (quiets s))) }
-    ensures none { IfOk result (λ o. IfNone o (IsTrue (is_quiet state.now space))) }
+    ensures none { IfOk result (λ o. IfNone o (IsTrue (is_quiet image.now space))) }
 {
-    if let Some(blocked) = first_grantable(state, space) {
+    let state = image.state();
+    if let Some(blocked) = first_grantable(image, space) {
         let rows = choose(alloc, state, blocked)?;
         return Ok(Some(Step::Grant {
             blocked: blocked.number,
             rows,
         }));
     }
-    if let Some(blocked) = first_without_hope(state, space) {
+    if let Some(blocked) = first_answerable(image, space) {
         return Ok(Some(Step::Empty {
             blocked: blocked.number,
         }));
@@ -45,20 +43,6 @@ pub(crate) fn quieting_step(
             registration: registration.number,
         })),
     }
-}
-
-/// The first request of the space that can be given a row.
-fn first_grantable<'a>(state: &'a Core, space: u64) -> Option<&'a Blocked>
-    ensures { option_copied result ≡ find (λ b. b.space == space && not (length (available state.now b) == 0)) state.now.blocked }
-{
-    state.blocked.first_at(space, &Grantable { state })
-}
-
-/// The first request of the space that has to wait no longer.
-fn first_without_hope<'a>(state: &'a Core, space: u64) -> Option<&'a Blocked>
-    ensures { option_copied result ≡ find (λ b. b.space == space && not (waits state.now b)) state.now.blocked }
-{
-    state.blocked.first_at(space, &Answerable { state })
 }
 
 /// The first registration of the space that is owed an event.

@@ -131,7 +131,7 @@ impl House for RowsHouse {
     }
 
     fn is_quiet(&self) -> bool {
-        all_quiet(self.image.state())
+        all_quiet(&self.image)
     }
 
     fn image(&self) -> Result<Image, NoMemory> {

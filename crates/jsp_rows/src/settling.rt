@@ -53,10 +53,10 @@ pub(crate) fn turn(state: &Core) -> Option<Settled>
 }
 
 /// Whether every space is quiet.
-pub(crate) fn all_quiet(state: &Core) -> bool
-    ensures { result ≡ is_none (first_of_all state.now) }
+pub(crate) fn all_quiet(image: &LiveImage) -> bool
+    ensures { result ≡ is_none (first_of_all image.now) }
 {
-    first_unquiet(state).is_none()
+    first_unquiet(image).is_none()
 }
 
 fn answer_of(step: &Step) -> Settled
@@ -81,7 +81,7 @@ fn quiet_next(
     ensures keeps { KeepsLog image.old image.new bound (vec_len log.old) (vec_len log.new) (vec_capacity log.old - vec_len log.old) (vec_capacity log.new - vec_len log.new) }
     ensures why { IfErr result (λ e. MayStop bound (vec_len log.new) e.why) }
 {
-    match first_unquiet(image.state()) {
+    match first_unquiet(image) {
         None => match clear(alloc, image, debt, false, bound, log) {
             Err(stopped) => Err(stopped),
             Ok(()) => Ok(Settled::Idle),

@@ -7,8 +7,8 @@ ghost use Rattle.jsp_serve.specs.Audit.{Has, IsHistory, frames_to, AuditFails, R
 use crate::fault::ScriptFault;
 use crate::streams::{Streams, streams_said, streams_sent};
 use jsp_drive::Sent;
-use jsp_model::Step;
-use jsp_rows::{Config, ReplayFault, replay};
+use jsp_hall::{ReplayFault, replay};
+use jsp_model::{Config, Step};
 use std::alloc::Global;
 
 /// Replays the steps from the empty state of a config, and compares what they say with what was sent,

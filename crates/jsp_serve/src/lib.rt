@@ -25,5 +25,6 @@ mod tests;
 mod writing;
 
 pub use jsp_floor::{Closed, RunFault};
+pub use jsp_model::Config;
 pub use run::{Ending, Options, Status, script};
 pub use server::serve;

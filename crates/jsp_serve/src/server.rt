@@ -5,7 +5,7 @@ ghost use Rattle.jsp_closing.specs.Closing.{Closes};
 use crate::connections::Connections;
 use jsp_floor::{Clock, Closed, Gate, RunFault, run_house};
 use jsp_hall::Hall;
-use jsp_rows::Config;
+use jsp_model::Config;
 use std::alloc::Global;
 use std::net::TcpListener;
 use std::random::RandomSource;

@@ -3,3 +3,4 @@ pub mod Scanning
 pub mod Soonest
 pub mod Testing
 pub mod Unsatisfied
+pub mod OnOffer

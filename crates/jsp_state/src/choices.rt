@@ -26,7 +26,7 @@ fn count_choice(state: &Core, blocked: &Blocked) -> usize
 }
 
 /// Whether the row of this number may be given to the request.
-fn may_be_given(state: &Core, blocked: &Blocked, number: u64) -> bool
+pub(crate) fn may_be_given(state: &Core, blocked: &Blocked, number: u64) -> bool
     ensures { result ≡ has (available state.now blocked.now) number }
 {
     state.rows.may_be_given(&state.classes, blocked, number)

@@ -12,6 +12,7 @@ mod choices;
 mod ends;
 mod entries;
 mod numbers;
+mod offered;
 mod outboxes;
 mod quiet;
 mod ranks;
@@ -27,12 +28,13 @@ pub use ends::due;
 pub use entries::{entries_refusal, entry_of, template_of, templates_of, templates_refusal};
 pub use jsp_sight::{contains, is_caller, is_if, is_readable, is_take};
 pub use numbers::{caller_of, is_used_up, named};
+pub use offered::{first_answerable, first_grantable, withdraw};
 pub use outboxes::{hand_out, waiting};
 pub use quiet::is_quiet;
 pub use ranks::rank_of;
 pub use rows::{entries_of, rows_in};
 pub use sessions::{close, is_open, is_waiting, open, set_version, waits_for_many};
-pub use sight::{Answerable, Grantable, has_conflict, has_none, must_wait};
+pub use sight::{has_conflict, has_none, must_wait};
 pub use spaces::{crash_count, names_of, place_of, space_named};
 pub use transactions::{
     commit_of, is_living, is_voting, joined_at, joined_otherwise, place_of_transaction,

@@ -33,8 +33,8 @@ pub fn has_conflict(state: &Core, blocked: &Blocked) -> bool
 
 /// Whether a request has to wait no longer.
 #[derive(Drop)]
-pub struct Answerable<'a> {
-    pub state: &'a Core,
+pub(crate) struct Answerable<'a> {
+    pub(crate) state: &'a Core,
 }
 
 impl<'a> Test<Blocked> for Answerable<'a> {
@@ -47,8 +47,8 @@ impl<'a> Test<Blocked> for Answerable<'a> {
 
 /// Whether there is a row that a request may be given.
 #[derive(Drop)]
-pub struct Grantable<'a> {
-    pub state: &'a Core,
+pub(crate) struct Grantable<'a> {
+    pub(crate) state: &'a Core,
 }
 
 impl<'a> Test<Blocked> for Grantable<'a> {

@@ -3,3 +3,4 @@ pub mod Choosing
 pub mod Fewer
 pub mod Retaining
 pub mod Paging
+pub mod Holding

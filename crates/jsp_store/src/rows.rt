@@ -1,6 +1,6 @@
 //! The rows of all spaces. Contracts see them as a list, in the order in which they were written.
 ghost use Rattle.std.specs.Prelude.{◌≡◌, ◌≤◌, ◌==◌, ◌&&◌, ◌||◌, ◌++◌, ◌∷◌, [], not, nat_le, nat_lt, map, filter, fold, min, take, length, reverse, position, Bool, None, IfOk, OnOk, OnErr, IsTrue};
-ghost use Rattle.std.specs.List.{list_any, last_or};
+ghost use Rattle.std.specs.List.{list_any, list_all, last_or};
 ghost use Rattle.std.specs.Fn.{FnReturnsAt};
 ghost use Rattle.jsp_lease.specs.Due.{first_item, over_by};
 ghost use Rattle.jsp_model.specs.declared.state.Row.{Row as OfRow};
@@ -251,6 +251,16 @@ impl Rows {
         match &self.kept {
             Kept::Scanned(rows) => rows.published(alloc, x),
             Kept::Hinted(rows) => rows.published(alloc, x),
+        }
+    }
+
+    /// Numbers among which are those of all rows that the transaction wrote, took or read.
+    pub fn held_by(&self, alloc: Global, x: u64) -> Result<Vec<u64>, NoMemory>
+        ensures { IfOk result (λ v. IsTrue (list_all (λ r. not (calls r.writer x || calls r.taker x || has r.readers x) || has v.items r.number) self.now)) }
+    {
+        match &self.kept {
+            Kept::Scanned(rows) => rows.held_by(alloc, x),
+            Kept::Hinted(rows) => rows.held_by(alloc, x),
         }
     }
 

@@ -1,6 +1,6 @@
 //! Rows in a plain list, each of which is looked at by every call.
 ghost use Rattle.std.specs.Prelude.{◌≡◌, ◌≤◌, ◌==◌, ◌&&◌, ◌||◌, ◌++◌, ◌∷◌, [], not, nat_le, nat_lt, map, filter, fold, min, take, length, reverse, position, Bool, None, IfOk, OnOk, OnErr, IsTrue};
-ghost use Rattle.std.specs.List.{list_any, last_or};
+ghost use Rattle.std.specs.List.{list_any, list_all, last_or};
 ghost use Rattle.std.specs.Fn.{FnReturnsAt};
 ghost use Rattle.jsp_lease.specs.Due.{first_item, over_by};
 ghost use Rattle.jsp_model.specs.declared.state.Row.{Row as OfRow};
@@ -169,6 +169,14 @@ impl ScannedRows {
         ensures { IfOk result (λ v. v.items ≡ publishes x self.now) }
     {
         published_among(alloc, &self.items, x)
+    }
+
+    /// The numbers of the rows that the transaction wrote, took or read.
+    pub fn held_by(&self, alloc: Global, x: u64) -> Result<Vec<u64>, NoMemory>
+        ensures { IfOk result (λ v. IsTrue (list_all (λ r. not (calls r.writer x || calls r.taker x || has r.readers x) || has v.items r.number) self.now)) }
+    {
+        let numbers = numbers_held(alloc, &self.items, x)?;
+        Ok(numbers)
     }
 
     /// The row whose end has come and comes first, as an item.
@@ -378,6 +386,19 @@ fn add_if_published(published: &mut Vec<Row>, row: &Row, x: u64) -> Result<(), N
         published.push(row.clone()?)?;
     }
     Ok(())
+}
+
+fn numbers_held(alloc: Global, rows: &[Row], x: u64) -> Result<Vec<u64>, NoMemory>
+    ensures { IfOk result (λ v. v.items ≡ map (λ r. r.number) (filter (λ r. calls r.writer x || calls r.taker x || has r.readers x) rows.now)) }
+{
+    let held = rows.iter().filter(|r| is_held(r, x));
+    held.map(|r| r.number).collect(alloc)
+}
+
+fn is_held(row: &Row, x: u64) -> bool
+    ensures { result ≡ (calls row.now.writer x || calls row.now.taker x || has row.now.readers x) }
+{
+    is_caller(row.writer, x) || is_caller(row.taker, x) || contains(row.readers.as_slice(), x)
 }
 
 fn spaces_among(alloc: Global, rows: &[Row], number: u64) -> Result<Vec<u64>, NoMemory>

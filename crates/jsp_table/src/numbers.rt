@@ -1,5 +1,5 @@
 //! Numbers in rising order.
-ghost use Rattle.std.specs.Prelude.{◌≡◌, ◌≢◌, ◌==◌, ◌<◌, ◌≤◌, ℕ, true, [], length, slice_index, OnOk};
+ghost use Rattle.std.specs.Prelude.{◌≡◌, ◌≢◌, ◌==◌, ◌<◌, ◌≤◌, ℕ, true, [], length, slice_index, IfOk, OnOk};
 ghost use Rattle.jsp_table.specs.Numbers.{contains, AreIncreasing};
 
 use crate::NoMemory;
@@ -55,6 +55,14 @@ impl Numbers {
         ensures { result ≡ slice_index self.now place }
     {
         self.numbers[place]
+    }
+
+    /// A copy of them.
+    pub fn to_vec(&self, alloc: Global) -> Result<Vec<u64>, NoMemory>
+        ensures { IfOk result (λ v. v.items ≡ self.now) }
+    {
+        let copies = self.numbers.iter().copied().collect(alloc)?;
+        Ok(copies)
     }
 
     /// The place of the first number above this one, or the length where there is none.

@@ -102,6 +102,13 @@ impl Waiters {
         self.requests.iter().find(|b| b.number == number)
     }
 
+    /// The first request that passes a test.
+    pub fn first<P: Test<Blocked>>(&self, test: &P) -> Option<&Blocked>
+        ensures { option_copied result ≡ find (λ b. P.is_passed test.now b) self.now }
+    {
+        self.requests.iter().find(|b| test.passes(b))
+    }
+
     /// The first request at a space that passes a test.
     pub fn first_at<P: Test<Blocked>>(&self, space: u64, test: &P) -> Option<&Blocked>
         ensures { option_copied result ≡ find (λ b. b.space == space && P.is_passed test.now b) self.now }

@@ -7,16 +7,19 @@ use Rattle.jsp_model.specs.Steps.{next}
 use Rattle.jsp_model.proofs.Apart.{next_handed}
 use Rattle.jsp_state.specs.Outboxes.{after_handing}
 use Rattle.jsp_audit.proofs.Stepping.{limits_handed, limits_either}
+use Rattle.jsp_audit.proofs.OnOffer.{offered_handed}
 use Rattle.jsp_audit.proofs.applying.hand_out.Goals as goal
 
 pub invariant_of-image : goal.invariant_of-image
 invariant_of-image c =
     let st = c.image.inside.state in
-    let there = subst (λ (w : State). c.args.count ≤ length (outbox_of w c.args.session)) (sym c.image.view_is) c.requires.there in
-    limits_either c.hand_out.result st (after_handing st c.args.session c.args.count) c.hand_out.new.state c.image.invariant
-    (limits_handed st c.args.session c.args.count c.image.invariant c.requires.some there)
-    c.hand_out.ensures.ok
-    c.hand_out.ensures.err
+    let there = subst (λ (w : State). c.args.count ≤ length (outbox_of w c.args.session)) (sym c.image.view_is) c.requires.there in (
+      limits_either c.hand_out.result st (after_handing st c.args.session c.args.count) c.hand_out.new.state c.image.invariant.0
+          (limits_handed st c.args.session c.args.count c.image.invariant.0 c.requires.some there)
+          c.hand_out.ensures.ok
+          c.hand_out.ensures.err,
+      offered_handed c.hand_out.result st c.args.session c.args.count c.hand_out.new.state c.image.inside.offers c.hand_out.ensures.ok c.hand_out.ensures.err c.image.invariant.1,
+    )
 
 pub returns-clause-ok : goal.returns-clause-ok
 returns-clause-ok c =
@@ -25,4 +28,4 @@ returns-clause-ok c =
     c.hand_out.ensures.ok
 
 pub returns-clause-limits : goal.returns-clause-limits
-returns-clause-limits c = invariant_of-image c
+returns-clause-limits c = (invariant_of-image c).0

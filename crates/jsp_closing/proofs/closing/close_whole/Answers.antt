@@ -36,5 +36,5 @@ returns c =
     is_whole spaces steps reports
     (subst (λ (xs : List Step). IsRun start xs) same replayed.run)
     (subst (λ (xs : List Step). LawsOfRuns start xs) same replayed.laws)
-    (subst IsAtRest state (c.is_at_rest.ensures c.if-not-is_at_rest.false))
+    (subst IsAtRest (replayed.image ∙ ap (state_after start) same) (c.is_at_rest.ensures c.if-not-is_at_rest.false))
     count opened asks writes

@@ -9,6 +9,5 @@ use Rattle.jsp_state.proofs.quiet.all_wait.Goals as goal
 
 pub returns : goal.returns
 returns c =
-    let none : is_some (option_copied c.first_at.result) ≡ not c.is_none.result = search rules in
-    none_is (λ (b : Blocked). b.space == c.args.space) (must_wait c.args.state.now) _ (option_copied c.first_at.result) _ none c.first_at.ensures
-    ∙ ap (λ (st : State). list_all (λ (b : Blocked). not (b.space == c.args.space) || must_wait c.args.state.now b) st.blocked) c.state.view_is
+    let none : is_some (option_copied c.first_answerable.result) ≡ not c.is_none.result = search rules in
+    none_is (λ (b : Blocked). b.space == c.args.space) (must_wait c.args.image.now) _ (option_copied c.first_answerable.result) _ none c.first_answerable.ensures

@@ -1,0 +1,31 @@
+use Rattle.std.proofs.Common.{◌≡◌, ◌∙◌, ap, sym, subst, ℕ, ◌≤◌, ◌<◌}
+use Rattle.std.specs.Prelude.{IsTrue}
+use Rattle.std.proofs.lemmas.Result.{on_ok_weaker, on_err_weaker}
+use Rattle.jsp_model.specs.declared.state.State.{State}
+use Rattle.jsp_model.specs.Steps.{is_legal, next}
+use Rattle.jsp_limits.proofs.Steps.{limits_stay}
+use Rattle.jsp_audit.proofs.Stepping.{limits_either}
+use Rattle.jsp_audit.proofs.OnOffer.{offered_either}
+use Rattle.jsp_audit.proofs.applying.make_and_offer.Goals as goal
+
+pub invariant_of-image : goal.invariant_of-image
+invariant_of-image c =
+    let st = c.image.inside.state in
+    let act = c.args.step.now in
+    let legal = subst (λ (w : State). IsTrue (is_legal w act)) (sym c.image.view_is) c.requires.legal in
+    let limits = limits_either c.make-made.result st (next st act) c.make-made.new.state c.image.invariant.0
+    (limits_stay st act c.image.invariant.0 legal c.keeps_its_request.ensures)
+    c.make-made.ensures.ok
+    c.make-made.ensures.err in (
+      limits,
+      offered_either c.make-made.result st act c.make-made.new.state c.image.inside.offers c.offer_let_go.new.offers c.add_between.new.self limits c.make-made.ensures.ok c.make-made.ensures.err
+          c.image.invariant.1 c.offer_let_go.ensures.any c.offer_let_go.ensures.marked c.offer_let_go.ensures.keeps
+          (λ n from to. c.add_between.ensures.added n (subst (λ m. m ≤ n) (sym c.next_number-first_new.ensures) from) (subst (λ m. n < m) (sym c.next_number-past_new.ensures) to)) c.add_between.ensures.keeps,
+    )
+
+pub returns : goal.returns
+returns c = record {
+  ok = on_ok_weaker c.make-made.result (λ e. e ∙ ap (λ (w : State). next w c.args.step.now) c.image.view_is) c.make-made.ensures.ok;
+  err = on_err_weaker c.make-made.result (λ e. e ∙ c.image.view_is) c.make-made.ensures.err;
+  limits = (invariant_of-image c).0;
+}

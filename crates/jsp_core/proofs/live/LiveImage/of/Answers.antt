@@ -1,0 +1,11 @@
+use Rattle.std.proofs.Common.{◌≡◌, refl, sym, subst, List, [], ◌∷◌, Bool, true, not, ◌||◌, Option, Some, None, ℕ}
+use Rattle.jsp_model.specs.Limits.{IsWithinLimits}
+use Rattle.jsp_core.specs.Offering.{are_offered}
+use Rattle.jsp_core.proofs.Offering.{any_offered}
+use Rattle.jsp_core.proofs.live.LiveImage.of.Goals as goal
+
+pub invariant_of-result : goal.invariant_of-result
+invariant_of-result c = (
+  subst IsWithinLimits (sym c.in_ok-state.ensures) c.image.invariant,
+  subst (λ o. are_offered o c.in_ok-state.state ≡ true) (sym c.any.ensures) (any_offered c.in_ok-state.state),
+)
