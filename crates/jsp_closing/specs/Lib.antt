@@ -4,3 +4,4 @@ pub mod Writing
 pub mod Lines
 pub mod Leaving
 pub mod Closing
+pub mod Checked

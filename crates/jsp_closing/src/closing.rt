@@ -1,5 +1,7 @@
 //! The end of a history.
-ghost use Rattle.std.specs.Prelude.{◌≡◌, true, length, filter, IfOk, IfErr};
+ghost use Rattle.std.specs.Prelude.{◌≡◌, true, length, filter, IfOk, IfErr, OnOk};
+ghost use Rattle.jsp_closing.specs.Asking.{HaveGiven};
+ghost use Rattle.jsp_closing.specs.Checked.{AreRight};
 ghost use Rattle.jsp_closing.specs.Closing.{Closes, IsNoSpawn, IsWhole, RestsAfter, opens};
 
 use crate::asking::{ask_again, feed_lines};
@@ -7,6 +9,7 @@ use crate::closed::{Closed, Fault, LineReport, RunFault};
 use crate::leaving::check_lines;
 use crate::resting::is_at_rest;
 use crate::writing::check_written;
+use jsp_drive::Line;
 use jsp_kept::{Era, Replayed, replay};
 use jsp_model::{Config, Step};
 use std::alloc::Global;
@@ -59,26 +62,54 @@ pub(crate) fn close_whole(
     reports.sort_by_key(|report| report.session)?;
     let mut lines = feed_lines(alloc, reports.as_slice())?;
     let steps = ask_again(alloc, reports.as_slice(), &mut lines, steps)?;
-    let Replayed { image, said } = replay(alloc, config, steps.as_slice())?;
-    let state = image.state();
-    if !is_at_rest(&image) || state.last_session != reports.len() as u64 {
-        return Err(Fault::Differs);
-    }
-    check_lines(
+    check_whole(
         alloc,
-        state,
+        config,
         steps.as_slice(),
         reports.as_slice(),
         &mut lines,
     )?;
-    check_written(alloc, reports.as_slice(), said.as_slice())?;
-    if !are_opened(steps.as_slice(), reports.len()) {
-        return Err(Fault::Differs);
-    }
     Ok(Whole {
         steps,
         lines: reports,
     })
+}
+
+// Replays the steps, and compares them with the lines, which have given what is asked in them.
+fn check_whole(
+    alloc: Global,
+    config: &Config,
+    steps: &[Step],
+    reports: &[LineReport],
+    lines: &mut Vec<Line>,
+) -> Result<(), Fault>
+    requires { HaveGiven reports.now lines.old.items steps.now }
+    ensures { OnOk result (IsWhole config.now steps.now reports.now) }
+{
+    let replayed = replay(alloc, config, steps)?;
+    check_replayed(alloc, &replayed, steps, reports, lines)
+}
+
+fn check_replayed(
+    alloc: Global,
+    replayed: &Replayed,
+    steps: &[Step],
+    reports: &[LineReport],
+    lines: &mut Vec<Line>,
+) -> Result<(), Fault>
+    requires { HaveGiven reports.now lines.old.items steps.now }
+    ensures { OnOk result (AreRight steps.now reports.now replayed.now.image replayed.now.said.items) }
+{
+    let state = replayed.image.state();
+    if !is_at_rest(&replayed.image) || state.last_session != reports.len() as u64 {
+        return Err(Fault::Differs);
+    }
+    check_lines(alloc, state, steps, reports, lines)?;
+    check_written(alloc, reports, replayed.said.as_slice())?;
+    if !are_opened(steps, reports.len()) {
+        return Err(Fault::Differs);
+    }
+    Ok(())
 }
 
 // Whether so many sessions were opened.

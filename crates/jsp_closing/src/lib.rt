@@ -11,8 +11,6 @@ mod closed;
 mod closing;
 mod leaving;
 mod resting;
-#[cfg(test)]
-mod tests;
 mod writing;
 
 pub use closed::{Closed, Ended, LineReport, RunFault};

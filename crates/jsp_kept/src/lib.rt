@@ -22,6 +22,3 @@ pub use jsp_drive::LineInput;
 pub use jsp_rows::{ReplayFault, Replayed, is_open, is_quiet, replay};
 pub use kept::{Era, Kept};
 pub use seats::{AskSeat, OutSeat, Seat};
-
-#[cfg(test)]
-mod tests;

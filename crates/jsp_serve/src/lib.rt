@@ -20,8 +20,6 @@ mod print;
 mod run;
 mod server;
 mod streams;
-#[cfg(test)]
-mod tests;
 mod writing;
 
 pub use jsp_floor::{Closed, RunFault};
