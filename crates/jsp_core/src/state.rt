@@ -2,7 +2,7 @@
 ghost use Rattle.std.specs.Prelude.{◌≡◌, IfOk, IsTrue};
 ghost use Rattle.jsp_model.specs.Limits.{are_outboxes};
 
-use jsp_model::{Commit, MatchSet, Session, Space, State, Transaction};
+use jsp_model::{Blocked, Commit, MatchSet, Session, Space, State, Transaction};
 use jsp_notify::Registrations;
 use jsp_outbox::Outboxes;
 use jsp_store::{Keeping, Rows};
@@ -38,7 +38,8 @@ impl Model for Core {
 }
 
 impl Core {
-    /// The program's form of a state, whose rows are kept so. Only they and its outboxes take memory.
+    /// The program's form of a state, whose rows and waiting requests are kept so. Only they and its outboxes
+    /// take memory.
     pub fn of(alloc: Global, state: State, keeping: Keeping) -> Result<Core, NoMemory>
         requires { IsTrue (are_outboxes state.outboxes) }
         ensures { IfOk result (λ c. c ≡ state) }
@@ -67,7 +68,7 @@ impl Core {
             next_number,
             rows: Rows::of(alloc, rows, keeping)?,
             registrations: Registrations::of(registrations),
-            blocked: Waiters::of(blocked),
+            blocked: waiters_of(alloc, blocked, keeping)?,
             transactions,
             commits,
             sets,
@@ -94,6 +95,15 @@ impl Core {
             sets: copy_sets(&self.sets)?,
             outboxes: self.outboxes.to_items(alloc)?,
         })
+    }
+}
+
+fn waiters_of(alloc: Global, blocked: Items<Blocked>, keeping: Keeping) -> Result<Waiters, NoMemory>
+    ensures { IfOk result (λ w. w ≡ blocked) }
+{
+    match keeping {
+        Keeping::Scanned => Ok(Waiters::scanned(alloc, blocked)),
+        Keeping::Hinted { seed } => Waiters::of(alloc, blocked, seed),
     }
 }
 

@@ -8,7 +8,7 @@ use Rattle.jsp_table.proofs.Finding.{both}
 use Rattle.std.specs.HashMap.{HashMap}
 use Rattle.jsp_model.specs.declared.state.Row.{Row}
 use Rattle.jsp_table.specs.Numbers.{names}
-use Rattle.jsp_index.specs.Keys.{space_key}
+use Rattle.jsp_keyed.specs.Keys.{space_key}
 use Rattle.jsp_index.specs.Hinted.{IsHinted}
 use Rattle.jsp_index.proofs.Covering.{eqb_eq}
 

@@ -15,7 +15,7 @@ use Rattle.jsp_types.specs.declared.entry.Template.{Template}
 use Rattle.jsp_types.specs.declared.entry.Template.TheVariants.{Like}
 use Rattle.jsp_types.specs.Matching.{is_null, value_eq, value_at}
 use Rattle.jsp_table.specs.Numbers.{names}
-use Rattle.jsp_index.specs.Keys.{space_key, field_key}
+use Rattle.jsp_keyed.specs.Keys.{space_key, field_key}
 use Rattle.jsp_index.specs.Hinted.{IsKeyFor}
 
 pub and_both : (a b : Bool) → (a && b) ≡ true → (a ≡ true) × (b ≡ true)

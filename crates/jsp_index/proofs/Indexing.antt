@@ -12,7 +12,7 @@ use Rattle.jsp_sight.specs.Rows.{row_end, row_ending}
 use Rattle.jsp_table.specs.Numbers.{names}
 use Rattle.jsp_table.specs.Finding.{without}
 use Rattle.jsp_table.proofs.Finding.{each}
-use Rattle.jsp_index.specs.Keys.{field_key}
+use Rattle.jsp_keyed.specs.Keys.{field_key}
 use Rattle.jsp_index.specs.Hinted.{IsHinted, IsAmong, AreIndexed, AreToCome, Keeps}
 use Rattle.jsp_index.specs.Changing.{HasSameKeys}
 use Rattle.jsp_index.proofs.Named.{All-append, all_still, left}

@@ -3,12 +3,10 @@ pub mod Indexing
 pub mod Covering
 pub mod Ending
 pub mod Coming
-pub mod Least
 pub mod Narrowing
 pub mod Walks
 pub mod Single
 pub mod Revisions
 pub mod Holders
-pub mod Clearing
 pub mod Joining
 pub mod Bounding

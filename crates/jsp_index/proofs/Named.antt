@@ -11,7 +11,7 @@ use Rattle.jsp_table.specs.Finding.{numbered, without}
 use Rattle.jsp_table.proofs.Finding.{each, found_number}
 use Rattle.std.specs.Prelude.{IfSome}
 use Rattle.jsp_model.specs.declared.state.Row.{Row}
-use Rattle.jsp_index.specs.Keys.{space_key, class_key, field_key}
+use Rattle.jsp_keyed.specs.Keys.{space_key, class_key, field_key}
 use Rattle.jsp_index.specs.Hinted.{IsHinted, Keeps}
 
 pub All-append : {X : Type 0} (P : X → Type 0) (xs ys : List X) → AllByRecursion P xs → AllByRecursion P ys → AllByRecursion P (xs ++ ys)

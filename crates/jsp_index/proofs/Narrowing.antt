@@ -16,7 +16,7 @@ use Rattle.jsp_model.specs.declared.state.Row.{Row}
 use Rattle.jsp_table.specs.Numbers.{contains, names}
 use Rattle.jsp_table.specs.Finding.{is_hit}
 use Rattle.jsp_table.proofs.Rising.{or_cases}
-use Rattle.jsp_index.specs.Keys.{class_key}
+use Rattle.jsp_keyed.specs.Keys.{class_key}
 use Rattle.jsp_index.specs.Hinted.{IsHinted, IsKeyFor, IsAmong}
 use Rattle.jsp_index.specs.Finding.{is_next, is_asked, is_like}
 use Rattle.jsp_index.proofs.Covering.{and_both, eqb_eq}

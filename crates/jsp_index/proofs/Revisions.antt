@@ -9,10 +9,10 @@ use Rattle.jsp_model.specs.Lookup.{contains as has}
 use Rattle.jsp_sight.specs.Rows.{taken_row}
 use Rattle.jsp_table.specs.Numbers.{contains, AreIncreasing}
 use Rattle.jsp_table.specs.Finding.{AreNumbered as AreRising}
-use Rattle.jsp_index.specs.Finding.{row_numbered}
+use Rattle.jsp_index.specs.Finding.{number, row_numbered}
 use Rattle.jsp_index.specs.Changing.{revised_by, HasSameKeys}
-use Rattle.jsp_index.proofs.Single.{only_one}
 use Rattle.jsp_index.proofs.Covering.{eqb_eq}
+use Rattle.jsp_keyed.proofs.Walking.{only_one}
 
 module _ {T : Type 0} (num : T → ℕ) (f : T → Option T) where
   -- the thing of one number is revised
@@ -108,7 +108,7 @@ module _ (gone : Row → Bool) (changed : Row → Row) (n : ℕ) where
     at false e rest = rw e (ap (λ w. x ∷ w) rest)
 
   pub goes_at : (rows : List Row) (r : Row) → AreRising (λ (r : Row). r.number) rows → row_numbered n rows ≡ Some r → gone r ≡ true → filter (λ (x : Row). not (eqb x.number n)) rows ≡ filter_map revised_at rows
-  goes_at rows r up is g = gone_here r g rows (only_one n rows r up is)
+  goes_at rows r up is g = gone_here r g rows (only_one number n rows r up is)
 
   stays_here : (r : Row) → gone r ≡ false → (rows : List Row) → AllByRecursion (λ x. x.number ≡ n → x ≡ r) rows → map (λ (x : Row). cond (eqb x.number n) (changed x) x) rows ≡ filter_map revised_at rows
   stays_here r g [] h = refl
@@ -118,7 +118,7 @@ module _ (gone : Row → Bool) (changed : Row → Row) (n : ℕ) where
     at false e rest = rw e (ap (λ w. x ∷ w) rest)
 
   pub stays_at : (rows : List Row) (r : Row) → AreRising (λ (r : Row). r.number) rows → row_numbered n rows ≡ Some r → gone r ≡ false → map (λ (x : Row). cond (eqb x.number n) (changed x) x) rows ≡ filter_map revised_at rows
-  stays_at rows r up is g = stays_here r g rows (only_one n rows r up is)
+  stays_at rows r up is g = stays_here r g rows (only_one number n rows r up is)
 
 -- ---- several leave, or are taken
 

@@ -14,19 +14,6 @@ use Rattle.jsp_index.proofs.Covering.{eqb_eq}
 some_same : {a b : Row} → Some a ≡ Some b → a ≡ b
 some_same e = cc
 
--- all of the number are the one that is found
-pub only_one : (n : ℕ) (rows : List Row) (r : Row) → AreRising (λ (r : Row). r.number) rows → row_numbered n rows ≡ Some r → AllByRecursion (λ x. x.number ≡ n → x ≡ r) rows
-only_one n [] r up is = tt
-only_one n (x ∷ rows) r up is = elim (cases_eq x.number n) [
-  | inl e ↦ this e (some_same (ap (λ b. cond b (Some x) (row_numbered n rows)) (sym (eq-eqb x.number n e)) ∙ is))
-  | inr ne ↦ let there = ap (λ b. cond b (Some x) (row_numbered n rows)) (sym (ne_eqb x.number n ne)) ∙ is in ((λ e. absurd (ne e)), only_one n rows r up.1 there)
-] where
-  apart : {a b : ℕ} → a ≡ n → a < b → b ≡ n → ⊥
-  apart p q s = omega arith
-
-  this : x.number ≡ n → x ≡ r → (x.number ≡ n → x ≡ r) × AllByRecursion (λ x. x.number ≡ n → x ≡ r) rows
-  this e same = ((λ _. same), each (λ y. x.number < y.number) (λ y. y.number ≡ n → y ≡ r) rows up.0 (λ y lt f. absurd (apart e lt f)))
-
 pub none_any : (q : Row → Bool) (rows : List Row) → find q rows ≡ None → list_any q rows ≡ false
 none_any q [] h = refl
 none_any q (x ∷ rows) h = at (q x) refl (none_any q rows) where
@@ -113,24 +100,3 @@ among_at n p r rows false false is same rest = rw (is, same) rest
 pub among_is : (n : ℕ) (p : Row → Bool) (rows : List Row) → list_any (λ (r : Row). r.number == n && p r) rows ≡ contains (map (λ (r : Row). r.number) (filter p rows)) n
 among_is n p [] = refl
 among_is n p (r ∷ rows) = among_at n p r rows (p r) (eqb r.number n) refl refl (among_is n p rows)
-
--- ---- from the start
-
-next_any : (p : Row → Bool) (rows : List Row) → AllByRecursion (λ r. is_next p 0 r ≡ p r) rows → list_any (is_next p 0) rows ≡ list_any p rows
-next_any p [] h = refl
-next_any p (x ∷ rows) h = rw (h.0, next_any p rows h.1) refl
-
-next_find : (p : Row → Bool) (rows : List Row) → AllByRecursion (λ r. is_next p 0 r ≡ p r) rows → find (is_next p 0) rows ≡ find p rows
-next_find p [] h = refl
-next_find p (x ∷ rows) h = rw (h.0, next_find p rows h.1) refl
-
-start_same : (p : Row → Bool) (rows : List Row) → AllByRecursion (λ r. 0 < r.number) rows → AllByRecursion (λ r. is_next p 0 r ≡ p r) rows
-start_same p rows h = each (λ r. 0 < r.number) (λ r. is_next p 0 r ≡ p r) rows h (λ r lt. rw (yes r.number lt) refl) where
-  yes : (n : ℕ) → 0 < n → nat_lt 0 n ≡ true
-  yes n lt = grind (arith, nat_tests)
-
-pub start_any : (p : Row → Bool) (rows : List Row) → AllByRecursion (λ r. 0 < r.number) rows → list_any (is_next p 0) rows ≡ list_any p rows
-start_any p rows h = next_any p rows (start_same p rows h)
-
-pub start_find : (p : Row → Bool) (rows : List Row) → AllByRecursion (λ r. 0 < r.number) rows → find (is_next p 0) rows ≡ find p rows
-start_find p rows h = next_find p rows (start_same p rows h)

@@ -7,78 +7,12 @@ use Rattle.std.proofs.lemmas.Bool.Decides.{nat_tests}
 use Rattle.jsp_model.specs.declared.state.Row.{Row}
 use Rattle.jsp_table.specs.Finding.{AreNumbered as AreRising}
 use Rattle.jsp_table.proofs.Finding.{each}
-use Rattle.jsp_index.specs.Finding.{is_next}
+use Rattle.jsp_index.specs.Finding.{number, is_next}
 use Rattle.jsp_index.proofs.Covering.{and_both}
+use Rattle.jsp_keyed.proofs.Walking.{none_passes, one_passes, same_filter}
 
 some_same : {a b : Row} → Some a ≡ Some b → a ≡ b
 some_same e = cc
-
--- what is so of none is so of no one found
-pub none_passes : (q : Row → Bool) (rows : List Row) → find q rows ≡ None → filter q rows ≡ []
-none_passes q [] h = refl
-none_passes q (x ∷ rows) h = at (q x) refl (none_passes q rows) where
-  at : (b : Bool) → q x ≡ b → (find q rows ≡ None → filter q rows ≡ []) → filter q (x ∷ rows) ≡ []
-  at true e rest = absurd (cc (h, ap (λ b. cond b (Some x) (find q rows)) e))
-  at false e rest = rw e (rest (ap (λ b. cond b (Some x) (find q rows)) (sym e) ∙ h))
-
-pub same_filter : (q t : Row → Bool) (rows : List Row) → AllByRecursion (λ r. q r ≡ t r) rows → filter q rows ≡ filter t rows
-same_filter q t [] h = refl
-same_filter q t (x ∷ rows) h = rw h.0 (ap (λ w. cond (t x) (x ∷ w) w) (same_filter q t rows h.1))
-
-module _ (passed : Row → Bool) where
-  -- a row that isn't above a number that another one is above
-  next_same : (after : ℕ) (x : Row) (rows : List Row) → after < x.number → AllByRecursion (λ y. x.number < y.number) rows → AllByRecursion (λ r. is_next passed after r ≡ is_next passed x.number r) rows
-  next_same after x rows lt h = each (λ y. x.number < y.number) (λ r. is_next passed after r ≡ is_next passed x.number r) rows h (λ y less. rw (yes after y.number (over less), yes x.number y.number less) refl) where
-    over : {n : ℕ} → x.number < n → after < n
-    over less = omega arith
-
-    yes : (a b : ℕ) → a < b → nat_lt a b ≡ true
-    yes a b h = grind (arith, nat_tests)
-
-  first_is_above : (after : ℕ) (r : Row) → is_next passed after r ≡ true → after < r.number
-  first_is_above after r h = less after r.number (and_both (nat_lt after r.number) (passed r) h).0 where
-    less : (a b : ℕ) → nat_lt a b ≡ true → a < b
-    less a b h = grind (arith, nat_tests)
-
-  not_itself : (r : Row) → is_next passed r.number r ≡ false
-  not_itself r = rw (no r.number) refl where
-    no : (a : ℕ) → nat_lt a a ≡ false
-    no a = grind (arith, nat_tests)
-
-  -- a row before the one that is found isn't above it
-  not_before : (x : Row) (rows : List Row) (r : Row) (q : Row → Bool) → AllByRecursion (λ y. x.number < y.number) rows → find q rows ≡ Some r → is_next passed r.number x ≡ false
-  not_before x rows r q h is = rw (no r.number x.number (less rows h is)) refl where
-    no : (a b : ℕ) → b < a → nat_lt a b ≡ false
-    no a b lt = grind (arith, nat_tests)
-
-    less : (rows : List Row) → AllByRecursion (λ y. x.number < y.number) rows → find q rows ≡ Some r → x.number < r.number
-    less [] h is = absurd (cc)
-    less (y ∷ rows) h is = at (q y) refl (less rows h.1) where
-      at : (b : Bool) → q y ≡ b → (find q rows ≡ Some r → x.number < r.number) → x.number < r.number
-      at true e rest = subst (λ (z : Row). x.number < z.number) (some_same (ap (λ b. cond b (Some y) (find q rows)) (sym e) ∙ is)) h.0
-      at false e rest = rest (ap (λ b. cond b (Some y) (find q rows)) (sym e) ∙ is)
-
-  -- one step
-  pub one_passes : (after : ℕ) (rows : List Row) (r : Row) → AreRising (λ (r : Row). r.number) rows → find (is_next passed after) rows ≡ Some r → filter (is_next passed after) rows ≡ r ∷ filter (is_next passed r.number) rows
-  one_passes after [] r up is = absurd (cc)
-  one_passes after (x ∷ rows) r up is = at (is_next passed after x) refl (one_passes after rows r up.1) where
-    at : (b : Bool) → is_next passed after x ≡ b → (find (is_next passed after) rows ≡ Some r → filter (is_next passed after) rows ≡ r ∷ filter (is_next passed r.number) rows)
-        → cond b (x ∷ filter (is_next passed after) rows) (filter (is_next passed after) rows) ≡ r ∷ cond (is_next passed r.number x) (x ∷ filter (is_next passed r.number) rows) (filter (is_next passed r.number) rows)
-    at true e rest =
-        let same : x ≡ r = some_same (ap (λ b. cond b (Some x) (find (is_next passed after) rows)) (sym e) ∙ is) in
-        let out : is_next passed r.number x ≡ false = ap (λ (z : Row). is_next passed z.number x) (sym same) ∙ not_itself x in
-        let tail : filter (is_next passed after) rows ≡ filter (is_next passed r.number) rows = same_filter (is_next passed after) (is_next passed x.number) rows (next_same after x rows (first_is_above after x e) up.0) ∙ ap (λ (z : Row). filter (is_next passed z.number) rows) same in
-        rw out (both same tail) where
-          both : {a b : Row} {us vs : List Row} → a ≡ b → us ≡ vs → a ∷ us ≡ b ∷ vs
-          both p q = cc
-    at false e rest =
-        let there : find (is_next passed after) rows ≡ Some r = ap (λ b. cond b (Some x) (find (is_next passed after) rows)) (sym e) ∙ is in
-        rw (not_before x rows r (is_next passed after) up.0 there) (rest there)
-
-  pub from_start : (rows : List Row) → AllByRecursion (λ r. 0 < r.number) rows → filter (is_next passed 0) rows ≡ filter passed rows
-  from_start rows h = same_filter (is_next passed 0) passed rows (each (λ r. 0 < r.number) (λ r. is_next passed 0 r ≡ passed r) rows h (λ r lt. rw (yes r.number lt) refl)) where
-    yes : (n : ℕ) → 0 < n → nat_lt 0 n ≡ true
-    yes n lt = grind (arith, nat_tests)
 
 -- ---- a list taken from its front
 
@@ -110,7 +44,7 @@ module _ (passed : Row → Bool) (rows : List Row) (from : ℕ) where
   pub walk_more : (after k : ℕ) (r : Row) → AreRising (λ (r : Row). r.number) rows → find (is_next passed after) rows ≡ Some r → drop k walk ≡ filter (is_next passed after) rows → (take (k + 1) walk ≡ take k walk ++ r ∷ []) × (drop (k + 1) walk ≡ filter (is_next passed r.number) rows)
   walk_more after k r up there rest =
       let e : suc k ≡ k + 1 = omega arith in
-      subst (λ (n : ℕ). (take n walk ≡ take k walk ++ r ∷ []) × (drop n walk ≡ filter (is_next passed r.number) rows)) e (take_next walk (filter (is_next passed r.number) rows) r k (rest ∙ one_passes passed after rows r up there))
+      subst (λ (n : ℕ). (take n walk ≡ take k walk ++ r ∷ []) × (drop n walk ≡ filter (is_next passed r.number) rows)) e (take_next walk (filter (is_next passed r.number) rows) r k (rest ∙ one_passes number passed after rows r up there))
 
   pub walk_over : (after k most : ℕ) → find (is_next passed after) rows ≡ None → drop k walk ≡ filter (is_next passed after) rows → k ≤ most → take k walk ≡ take most walk
   walk_over after k most none rest le = all_taken walk k most (rest ∙ none_passes (is_next passed after) rows none) le
@@ -144,12 +78,6 @@ length_mapped f (suc k) [] = refl
 length_mapped f (suc k) (r ∷ rows) = ap suc (length_mapped f k rows)
 
 -- ---- named rows
-
-pub listed_more : {X : Type 0} (f : Row → X) (xs new : List X) (r : Row) (rest now : List Row) (all : List X) → now ≡ r ∷ rest → xs ++ map f now ≡ all → new ≡ xs ++ f r ∷ [] → new ++ map f rest ≡ all
-listed_more f xs new r rest now all is so made = ap (λ w. w ++ map f rest) made ∙ (append_assoc xs (f r ∷ []) (map f rest) ∙ (ap (λ w. xs ++ map f w) (sym is) ∙ so))
-
-pub listed_all : {X : Type 0} (f : Row → X) (xs : List X) (now : List Row) (all : List X) → now ≡ [] → xs ++ map f now ≡ all → xs ≡ all
-listed_all f xs now all is so = sym (append-nil xs) ∙ (ap (λ w. xs ++ map f w) (sym is) ∙ so)
 
 pub map_same : (rows : List Row) → map (λ (r : Row). r) rows ≡ rows
 map_same [] = refl

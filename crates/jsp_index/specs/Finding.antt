@@ -1,14 +1,18 @@
 -- The first row that passes a test, found in parts.
-use Rattle.std.specs.Prelude.{◌≡◌, ◌≤◌, ℕ, Bool, true, ◌&&◌, ◌==◌, nat_lt, nat_le, if◌then◌else◌, List, find, Option, Some, None}
-use Rattle.std.specs.List.{AllByRecursion, list_any}
+use Rattle.std.specs.Prelude.{ℕ, Bool, ◌&&◌, ◌==◌, List, find, Option}
+use Rattle.std.specs.List.{list_any}
 use Rattle.jsp_types.specs.declared.class.Class.{Class}
 use Rattle.jsp_types.specs.declared.entry.Template.{Template}
 use Rattle.jsp_types.specs.Matching.{matches}
 use Rattle.jsp_model.specs.declared.state.Row.{Row}
+use Rattle.jsp_keyed.specs.Finding.{is_next as is_next_by, IsLeast as IsLeastBy, lesser as lesser_by}
+
+abbrev pub number : Row → ℕ
+number row = row.number
 
 -- the row is above the number and passes
 abbrev pub is_next : (Row → Bool) → ℕ → Row → Bool
-is_next passed after row = nat_lt after row.number && passed row
+is_next passed after row = is_next_by number passed after row
 
 -- the row is in the space, and one of the templates matches it
 abbrev pub is_asked : List Class → ℕ → List Template → Row → Bool
@@ -21,23 +25,10 @@ is_like classes space template row = row.space == space && matches classes templ
 abbrev pub row_numbered : ℕ → List Row → Option Row
 row_numbered n rows = find (λ (row : Row). row.number == n) rows
 
--- the number is no less than that of the row
-abbrev pub IsUpTo : Option Row → ℕ → Type 0
-IsUpTo None n = ⊥
-IsUpTo (Some row) n = row.number ≤ n
-
--- the row is one of these and passes
-abbrev pub IsOneOf : (Row → Bool) → List Row → Option Row → Type 0
-IsOneOf passed rows None = Unit {0}
-IsOneOf passed rows (Some row) = (passed row ≡ true) × (row_numbered row.number rows ≡ Some row)
-
 -- what was found passes, and is no later than any row of this kind that passes
-pub record IsLeast (passed kind : Row → Bool) (rows : List Row) (found : Option Row) : Type 0 where
-  pub one : IsOneOf passed rows found
-  pub least : AllByRecursion (λ row. passed row ≡ true → kind row ≡ true → IsUpTo found row.number) rows
+abbrev pub IsLeast : (Row → Bool) → (Row → Bool) → List Row → Option Row → Type 0
+IsLeast passed kind rows found = IsLeastBy number passed kind rows found
 
 -- the one with the lesser number
 abbrev pub lesser : Option Row → Option Row → Option Row
-lesser None b = b
-lesser (Some a) None = Some a
-lesser (Some a) (Some b) = if nat_le a.number b.number then Some a else Some b
+lesser a b = lesser_by number a b

@@ -9,7 +9,7 @@ use Rattle.jsp_lease.specs.Leases.{Leased}
 use Rattle.jsp_model.specs.declared.state.Row.{Row}
 use Rattle.jsp_sight.specs.Rows.{row_end}
 use Rattle.jsp_table.specs.Numbers.{names}
-use Rattle.jsp_index.specs.Keys.{space_key, class_key, field_key}
+use Rattle.jsp_keyed.specs.Keys.{space_key, class_key, field_key}
 
 module _ {S : Type 0} where
   -- the row is named under its space, its class and each value of a field that isn't null

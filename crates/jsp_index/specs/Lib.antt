@@ -1,4 +1,3 @@
-pub mod Keys
 pub mod Hinted
 pub mod Numbered
 pub mod Finding

@@ -8,7 +8,7 @@ ghost use Rattle.jsp_table.specs.Numbers.{names};
 ghost use Rattle.jsp_table.specs.Finding.{AreNumbered as AreRising};
 ghost use Rattle.jsp_index.specs.Hinted.{IsKeyFor};
 
-use crate::keys::key_of_field;
+use jsp_keyed::key_of_field;
 use jsp_table::Hints;
 use jsp_types::Entry;
 

@@ -1,5 +1,5 @@
 //! What is found among rows by hints. Only what answers in lists takes memory.
-ghost use Rattle.std.specs.Prelude.{◌≡◌, ◌==◌, ◌&&◌, ◌||◌, ◌≤◌, ℕ, true, not, map, filter, take, length, slice_get, Bool, None, IfOk};
+ghost use Rattle.std.specs.Prelude.{◌≡◌, ◌==◌, ◌&&◌, ◌||◌, ◌≤◌, ℕ, true, not, map, filter, find, option_copied, take, length, slice_get, Bool, None, IfOk};
 ghost use Rattle.std.specs.List.{list_any, list_all, last_or};
 ghost use Rattle.std.specs.Fn.{FnReturnsAt};
 ghost use Rattle.jsp_lease.specs.Due.{first_item, over_by};
@@ -32,6 +32,13 @@ impl HintedRows {
         ensures { length (filter (λ r. r.space == space) self.now) ≤ result }
     {
         self.rows.at_most_in(space)
+    }
+
+    /// The row of this number.
+    pub fn get(&self, number: u64) -> Option<&Row>
+        ensures { option_copied result ≡ find (λ r. r.number == number) self.now }
+    {
+        self.rows.get(number)
     }
 
     /// Whether a row has this number.

@@ -18,7 +18,6 @@ mod finding;
 mod hinted;
 mod holding;
 mod keyed;
-mod keys;
 mod listing;
 mod naming;
 mod revising;

@@ -4,10 +4,10 @@ ghost use Rattle.jsp_table.specs.Numbers.{names};
 ghost use Rattle.std.specs.List.{list_any};
 ghost use Rattle.jsp_types.specs.Matching.{is_null};
 ghost use Rattle.jsp_index.specs.Hinted.{IsHinted, Keeps, IsAmong, AreToCome};
-ghost use Rattle.jsp_index.specs.Keys.{field_key};
+ghost use Rattle.jsp_keyed.specs.Keys.{field_key};
 
 use crate::NoMemory;
-use crate::keys::{key_of_class, key_of_field, key_of_space};
+use jsp_keyed::{key_of_class, key_of_field, key_of_space};
 use jsp_model::Row;
 use jsp_table::{Hints, add_hint, drop_hint};
 use jsp_types::{Items, Text, Value};

@@ -3,43 +3,16 @@ ghost use Rattle.std.specs.Prelude.{◌≡◌, ◌==◌, ◌&&◌, true, bytes_e
 ghost use Rattle.jsp_model.specs.declared.state.Row.{Row as OfRow};
 ghost use Rattle.jsp_types.specs.declared.entry.Template.TheVariants.{Like};
 ghost use Rattle.jsp_table.specs.Numbers.{names};
-ghost use Rattle.jsp_index.specs.Finding.{is_next, is_asked, is_like, lesser as lesser_of, IsLeast};
+ghost use Rattle.jsp_index.specs.Finding.{is_next, is_asked, is_like, IsLeast};
 ghost use Rattle.jsp_index.specs.Numbered.{AreNumbered};
 
 use crate::asking::InSpace;
 use crate::choosing::rarest_key;
 use crate::keyed::{ByNumber, KeyedRows};
-use crate::keys::{key_of_class, key_of_space};
+use jsp_keyed::{first_under, key_of_class, key_of_space, lesser};
 use jsp_model::Row;
-use jsp_table::{Hints, Table, Test};
+use jsp_table::Test;
 use jsp_types::{Classes, Entry, Template};
-
-/// The one with the lesser number.
-fn lesser<'a>(a: Option<&'a Row>, b: Option<&'a Row>) -> Option<&'a Row>
-    ensures { option_copied result ≡ lesser_of (option_copied a.entry) (option_copied b.entry) }
-{
-    match (a, b) {
-        (None, b) => b,
-        (Some(a), None) => Some(a),
-        (Some(a), Some(b)) => Some(if a.number <= b.number { a } else { b }),
-    }
-}
-
-/// The first row above a number that is named under the key and passes the test.
-fn first_under<'a, P: Test<Row>>(
-    table: &'a Table<Row, ByNumber>,
-    hints: &Hints,
-    key: u64,
-    after: u64,
-    test: &P,
-) -> Option<&'a Row>
-    ensures { IsLeast (is_next (P.is_passed test.now) after) (λ r. names hints.now key r.number) table.now (option_copied result) }
-{
-    match hints.get(&key) {
-        None => None,
-        Some(numbers) => table.first_above(numbers, after, test),
-    }
-}
 
 impl KeyedRows {
     /// The number of the first row of a space.
@@ -94,7 +67,7 @@ impl KeyedRows {
     {
         let mut first = None;
         'classes: for class in self.seen.as_slice() {
-            first = lesser(
+            first = lesser::<Row, ByNumber>(
                 first,
                 self.first_of_class(classes, space, class.as_str(), like, after, test),
             );
@@ -145,7 +118,7 @@ impl KeyedRows {
         let _ = self.places();
         let mut first = None;
         'templates: for template in templates {
-            first = lesser(
+            first = lesser::<Row, ByNumber>(
                 first,
                 self.first_like(classes, space, template, after, test),
             );

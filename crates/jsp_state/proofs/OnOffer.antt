@@ -1,15 +1,21 @@
 -- Whoever may be given a row may be given one on offer.
-use Rattle.std.proofs.Common.{◌≡◌, refl, sym, ap, ◌∙◌, ℕ, List, [], ◌∷◌, map, filter, length, Bool, true, false, not, cond, ◌&&◌, ◌||◌, ◌==◌, find, Option, Some, None, true≢false, eq-eqb, eqb-true, arith}
+use Rattle.std.proofs.Common.{◌≡◌, refl, sym, ap, ◌∙◌, ℕ, List, [], ◌∷◌, map, filter, length, Bool, true, false, not, cond, ◌&&◌, ◌||◌, ◌==◌, find, Option, Some, None, true≢false, eq-eqb, eqb-true, nat_lt, ◌<◌, ◌≤◌, subst, arith}
 use Rattle.std.specs.Prelude.{option_map, is_some, is_none}
 use Rattle.std.specs.List.{list_any, list_all}
-use Rattle.std.proofs.lemmas.Bool.{and_parts, and_from, false_from_ne_true}
+use Rattle.std.specs.Option.{option_map_or}
+use Rattle.std.proofs.lemmas.Bool.{and_parts, and_from, false_from_ne_true, ne_eqb, ltb-true}
 use Rattle.jsp_model.specs.declared.state.State.{State}
 use Rattle.jsp_model.specs.declared.state.Row.{Row}
 use Rattle.jsp_model.specs.declared.state.Blocked.{Blocked}
 use Rattle.jsp_model.specs.Lookup.{contains}
 use Rattle.jsp_model.specs.Sight.{is_available, available, is_if, has_conflict}
 use Rattle.jsp_model.specs.Quiet.{must_wait}
+use Rattle.jsp_model.specs.Limits.{are_rising}
+use Rattle.jsp_types.specs.declared.class.Class.{Class}
+use Rattle.jsp_sight.specs.Rows.{wanted}
+use Rattle.jsp_wait.specs.Offered.{IsAsked, AskForIt, takes_one, waits_no_more}
 use Rattle.jsp_core.specs.Offering.{is_offered, are_offered}
+use Rattle.jsp_state.specs.Taking.{may_take}
 
 -- ---- lists
 
@@ -124,6 +130,71 @@ stirred_are st ns space h =
 pub no_takers : (st : State) (space : ℕ) → are_offered (Some []) st ≡ true → None ≡ find (λ b. b.space == space && not (length (available st b) == 0)) st.blocked
 no_takers st space h = sym (none_find (λ (b : Blocked). b.space == space) st.blocked) ∙ takers_are st [] space h
 
+-- ---- by the row of a number
+
+-- a row that a request may be given is one that it wants
+row_asked : (st : State) (b : Blocked) (o : Option Row) → option_map_or (λ r. is_available st b r) o false ≡ true → IsAsked st.classes o b
+row_asked st b None h = absurd (true≢false (sym h))
+row_asked st b (Some r) h = (and_parts (wanted st.classes b r) _ h).0
+
+pub ask_for_it : (st : State) → AskForIt st.classes (λ n. find (λ (r : Row). r.number == n) st.rows) (may_take st)
+ask_for_it st n b h = row_asked st b (find (λ (r : Row). r.number == n) st.rows) h
+
+not_above : (p : Row → Bool) (n low high : ℕ) (rows : List Row) → n ≤ low → are_rising low high (map (λ r. r.number) rows) ≡ true → contains (map (λ r. r.number) (filter p rows)) n ≡ false
+not_above p n low high [] le h = refl
+not_above p n low high (r ∷ rows) le h =
+    let parts = and_parts (nat_lt low r.number) (are_rising r.number high (map (λ r. r.number) rows)) h in
+    let less : low < r.number = ltb-true low r.number parts.0 in
+    go (p r) (ne_eqb r.number n (λ e. omega (arith, less))) (not_above p n r.number high rows (omega (arith, less)) parts.1)
+  where
+    go : (b : Bool) → (r.number == n) ≡ false → contains (map (λ r. r.number) (filter p rows)) n ≡ false → contains (map (λ r. r.number) (cond b (r ∷ filter p rows) (filter p rows))) n ≡ false
+    go true e ih = rw e ih
+    go false e ih = ih
+
+-- of rising numbers each stands once
+one_of_number : (p : Row → Bool) (n low high : ℕ) (rows : List Row) → are_rising low high (map (λ r. r.number) rows) ≡ true
+    → option_map_or p (find (λ (r : Row). r.number == n) rows) false ≡ contains (map (λ r. r.number) (filter p rows)) n
+one_of_number p n low high [] h = refl
+one_of_number p n low high (r ∷ rows) h =
+    let parts = and_parts (nat_lt low r.number) (are_rising r.number high (map (λ r. r.number) rows)) h in
+    go (r.number == n) refl (p r) refl (one_of_number p n r.number high rows parts.1) (λ e. not_above p n r.number high rows (same_le (eqb-true r.number n e)) parts.1)
+  where
+    same_le : {a b : ℕ} → a ≡ b → b ≤ a
+    same_le e = omega arith
+
+    go : (here : Bool) → (r.number == n) ≡ here → (b : Bool) → p r ≡ b → option_map_or p (find (λ (r : Row). r.number == n) rows) false ≡ contains (map (λ r. r.number) (filter p rows)) n
+        → ((r.number == n) ≡ true → contains (map (λ r. r.number) (filter p rows)) n ≡ false)
+        → option_map_or p (cond here (Some r) (find (λ (r : Row). r.number == n) rows)) false ≡ contains (map (λ r. r.number) (cond b (r ∷ filter p rows) (filter p rows))) n
+    go true k true q ih none = rw (q, k) refl
+    go true k false q ih none = rw q (sym (none k))
+    go false k true q ih none = rw k ih
+    go false k false q ih none = ih
+
+pub takes_it : (st : State) → are_rising 0 st.next_number (map (λ r. r.number) st.rows) ≡ true → (n : ℕ) (b : Blocked) → may_take st n b ≡ contains (available st b) n
+takes_it st up n b = one_of_number (is_available st b) n 0 st.next_number st.rows up
+
+any_same : {A : Type 0} (p q : A → Bool) (xs : List A) → ((x : A) → p x ≡ q x) → list_any p xs ≡ list_any q xs
+any_same p q [] h = refl
+any_same p q (x ∷ xs) h = rw (h x) (ap (λ w. q x || w) (any_same p q xs h))
+
+find_same : {A : Type 0} (p q : A → Bool) (xs : List A) → ((x : A) → p x ≡ q x) → find p xs ≡ find q xs
+find_same p q [] h = refl
+find_same p q (x ∷ xs) h = rw (h x) (ap (λ w. cond (q x) (Some x) w) (find_same p q xs h))
+
+pub takers_of : (st : State) (ns : List ℕ) (space : ℕ) → are_rising 0 st.next_number (map (λ r. r.number) st.rows) ≡ true → are_offered (Some ns) st ≡ true
+    → find (takes_one (may_take st) space ns) st.blocked ≡ find (λ b. b.space == space && not (length (available st b) == 0)) st.blocked
+takers_of st ns space up h =
+    find_same (takes_one (may_take st) space ns) (λ b. b.space == space && list_any (contains (available st b)) ns) st.blocked
+    (λ b. ap (λ w. b.space == space && w) (any_same (λ n. may_take st n b) (contains (available st b)) ns (λ n. takes_it st up n b)))
+    ∙ takers_are st ns space h
+
+pub stirred_of : (st : State) (ns : List ℕ) (space : ℕ) → are_rising 0 st.next_number (map (λ r. r.number) st.rows) ≡ true → are_offered (Some ns) st ≡ true
+    → find (waits_no_more (may_take st) (λ b. not (has_conflict st b)) space ns) st.blocked ≡ find (λ b. b.space == space && not (must_wait st b)) st.blocked
+stirred_of st ns space up h =
+    find_same (waits_no_more (may_take st) (λ b. not (has_conflict st b)) space ns) (λ b. b.space == space && (list_any (contains (available st b)) ns || (is_if b.form && not (has_conflict st b)))) st.blocked
+    (λ b. ap (λ w. b.space == space && (w || (is_if b.form && not (has_conflict st b)))) (any_same (λ n. may_take st n b) (contains (available st b)) ns (λ n. takes_it st up n b)))
+    ∙ stirred_are st ns space h
+
 -- ---- what is taken off
 
 -- the number is of a row that a waiting request may be given
@@ -176,6 +247,17 @@ wanted_stay st ns (b ∷ bs) within h =
 pub kept_offered : (st : State) (o : Option (List ℕ)) → are_offered o st ≡ true → are_offered (option_map (filter (is_wanted st)) o) st ≡ true
 kept_offered st None h = h
 kept_offered st (Some ns) h = wanted_stay st ns st.blocked (λ n e. e) h
+
+filter_same : (p q : ℕ → Bool) (ns : List ℕ) → ((n : ℕ) → p n ≡ q n) → filter p ns ≡ filter q ns
+filter_same p q [] h = refl
+filter_same p q (n ∷ ns) h = rw (h n) (ap (λ w. cond (q n) (n ∷ w) w) (filter_same p q ns h))
+
+pub kept_of : (st : State) (o : Option (List ℕ)) → are_rising 0 st.next_number (map (λ r. r.number) st.rows) ≡ true → are_offered o st ≡ true
+    → are_offered (option_map (filter (λ n. list_any (λ b. may_take st n b) st.blocked)) o) st ≡ true
+kept_of st None up h = h
+kept_of st (Some ns) up h =
+    subst (λ w. are_offered (Some w) st ≡ true) (filter_same (is_wanted st) (λ n. list_any (λ b. may_take st n b) st.blocked) ns (λ n. any_same (λ b. contains (available st b) n) (λ b. may_take st n b) st.blocked (λ b. sym (takes_it st up n b))))
+    (kept_offered st (Some ns) h)
 
 none_takes : (st : State) (bs : List Blocked) → find (λ b. not (length (available st b) == 0)) bs ≡ None → list_all (λ b. list_all (λ r. not (is_available st b r) || false) st.rows) bs ≡ true
 none_takes st [] e = refl

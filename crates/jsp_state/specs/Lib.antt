@@ -2,3 +2,4 @@ pub mod Ends
 pub mod Fitting
 pub mod Outboxes
 pub mod Versions
+pub mod Taking

@@ -1,17 +1,19 @@
-//! Which of the requests that wait need wait no longer. Only rows on offer are looked at.
-ghost use Rattle.std.specs.Prelude.{◌≡◌, ◌==◌, ◌&&◌, ◌||◌, not, length, find, option_copied, is_none, IsTrue, Some};
-ghost use Rattle.std.specs.List.{list_any, list_all};
-ghost use Rattle.jsp_model.specs.Lookup.{contains as has};
-ghost use Rattle.jsp_model.specs.Sight.{available, has_conflict as held_up, is_if as waits_for_conflict};
+//! Which of the requests that wait need wait no longer. Only rows on offer are looked at, each by those
+//! that may want it.
+ghost use Rattle.std.specs.Prelude.{◌≡◌, ◌==◌, ◌&&◌, not, map, length, find, option_copied, is_none, IsTrue, Some};
+ghost use Rattle.std.specs.List.{list_any};
+ghost use Rattle.jsp_model.specs.Limits.{are_rising};
+ghost use Rattle.jsp_model.specs.Sight.{available, has_conflict as held_up};
 ghost use Rattle.jsp_model.specs.Quiet.{must_wait as waits};
 ghost use Rattle.jsp_core.specs.Offering.{are_offered};
+ghost use Rattle.jsp_state.specs.Taking.{may_take as takes_it};
 
-use crate::choices::may_be_given;
 use crate::sight::{Answerable, Grantable, has_conflict};
 use jsp_core::{Core, LiveImage};
-use jsp_model::Blocked;
-use jsp_sight::is_if;
+use jsp_model::{Blocked, Row};
+use jsp_sight::is_available;
 use jsp_table::Test;
+use jsp_wait::Offer;
 
 /// The first request of the space that can be given a row.
 pub fn first_grantable(image: &LiveImage, space: u64) -> Option<&Blocked>
@@ -36,73 +38,66 @@ pub fn first_answerable(image: &LiveImage, space: u64) -> Option<&Blocked>
 }
 
 fn first_taker<'a>(state: &'a Core, space: u64, numbers: &[u64]) -> Option<&'a Blocked>
-    requires { IsTrue (are_offered (Some numbers.now) state.now) }
+    requires offered { IsTrue (are_offered (Some numbers.now) state.now) }
+    requires rising { IsTrue (are_rising 0 state.now.next_number (map (λ r. r.number) state.now.rows)) }
     ensures { option_copied result ≡ find (λ b. b.space == space && not (length (available state.now b) == 0)) state.now.blocked }
 {
     if numbers.is_empty() {
         return None;
     }
-    state.blocked.first_at(space, &Taker { state, numbers })
+    state.blocked.first_taker(space, numbers, &RowsOf { state })
 }
 
 fn first_stirred<'a>(state: &'a Core, space: u64, numbers: &[u64]) -> Option<&'a Blocked>
-    requires { IsTrue (are_offered (Some numbers.now) state.now) }
+    requires offered { IsTrue (are_offered (Some numbers.now) state.now) }
+    requires rising { IsTrue (are_rising 0 state.now.next_number (map (λ r. r.number) state.now.rows)) }
     ensures { option_copied result ≡ find (λ b. b.space == space && not (waits state.now b)) state.now.blocked }
 {
-    state.blocked.first_at(space, &Stirred { state, numbers })
+    state
+        .blocked
+        .first_stirred(space, numbers, &RowsOf { state })
 }
 
-/// Whether a request may be given one of these rows.
+/// The rows of a state, by number, and who of those that wait may be given one.
 #[derive(Drop)]
-struct Taker<'a> {
+struct RowsOf<'a> {
     state: &'a Core,
-    numbers: &'a [u64],
 }
 
-impl<'a> Test<Blocked> for Taker<'a> {
-    ghost is_passed = { λ t b. list_any (has (available t.state.now b)) t.numbers.now };
+impl<'a> Offer for RowsOf<'a> {
+    ghost classes_of = { λ o. o.state.now.classes };
 
-    fn passes(&self, blocked: &Blocked) -> bool {
-        may_have_one(self.state, blocked, self.numbers)
+    ghost row_of = { λ o n. find (λ r. r.number == n) o.state.now.rows };
+
+    ghost is_taker = { λ o n b. takes_it o.state.now n b };
+
+    ghost is_freed = { λ o b. not (held_up o.state.now b) };
+
+    fn row(&self, number: u64) -> Option<&Row> {
+        row_of(self.state, number)
+    }
+
+    fn takes(&self, number: u64, request: &Blocked) -> bool {
+        may_take(self.state, number, request)
+    }
+
+    fn frees(&self, request: &Blocked) -> bool {
+        !has_conflict(self.state, request)
     }
 }
 
-/// Whether a request may be given one of these rows, or waited for a conflict that is gone.
-#[derive(Drop)]
-struct Stirred<'a> {
-    state: &'a Core,
-    numbers: &'a [u64],
-}
-
-impl<'a> Test<Blocked> for Stirred<'a> {
-    ghost is_passed = { λ t b. list_any (has (available t.state.now b)) t.numbers.now || (waits_for_conflict b.form && not (held_up t.state.now b)) };
-
-    fn passes(&self, blocked: &Blocked) -> bool {
-        may_have_one(self.state, blocked, self.numbers)
-            || (is_if(blocked.form) && !has_conflict(self.state, blocked))
-    }
-}
-
-fn may_have_one(state: &Core, blocked: &Blocked, numbers: &[u64]) -> bool
-    ensures { result ≡ list_any (has (available state.now blocked.now)) numbers.now }
+fn row_of(state: &Core, number: u64) -> Option<&Row>
+    ensures { option_copied result ≡ find (λ r. r.number == number) state.now.rows }
 {
-    numbers
-        .iter()
-        .any(|number| may_be_given(state, blocked, *number))
+    state.rows.get(number)
 }
 
-/// Whether a waiting request may be given the row of a number.
-#[derive(Drop)]
-struct TakerOf<'a> {
-    state: &'a Core,
-    number: u64,
-}
-
-impl<'a> Test<Blocked> for TakerOf<'a> {
-    ghost is_passed = { λ t b. has (available t.state.now b) t.number };
-
-    fn passes(&self, blocked: &Blocked) -> bool {
-        may_be_given(self.state, blocked, self.number)
+fn may_take(state: &Core, number: u64, request: &Blocked) -> bool
+    ensures { result ≡ takes_it state.now number request.now }
+{
+    match state.rows.get(number) {
+        None => false,
+        Some(row) => is_available(&state.classes, request, row),
     }
 }
 
@@ -113,7 +108,7 @@ struct Wanted<'a> {
 }
 
 impl<'a> Test<u64> for Wanted<'a> {
-    ghost is_passed = { λ t n. list_any (λ b. has (available t.state.now b) n) t.state.now.blocked };
+    ghost is_passed = { λ t n. list_any (λ b. takes_it t.state.now n b) t.state.now.blocked };
 
     fn passes(&self, number: &u64) -> bool {
         is_wanted(self.state, *number)
@@ -121,9 +116,9 @@ impl<'a> Test<u64> for Wanted<'a> {
 }
 
 fn is_wanted(state: &Core, number: u64) -> bool
-    ensures { result ≡ list_any (λ b. has (available state.now b) number) state.now.blocked }
+    ensures { result ≡ list_any (λ b. takes_it state.now number b) state.now.blocked }
 {
-    state.blocked.first(&TakerOf { state, number }).is_some()
+    state.blocked.is_wanted(number, &RowsOf { state })
 }
 
 /// Takes off the rows that no waiting request may be given. The state stays.

@@ -1,5 +1,5 @@
 //! The rows of all spaces. Contracts see them as a list, in the order in which they were written.
-ghost use Rattle.std.specs.Prelude.{◌≡◌, ◌≤◌, ◌==◌, ◌&&◌, ◌||◌, ◌++◌, ◌∷◌, [], not, nat_le, nat_lt, map, filter, fold, min, take, length, reverse, position, Bool, None, IfOk, OnOk, OnErr, IsTrue};
+ghost use Rattle.std.specs.Prelude.{◌≡◌, ◌≤◌, ◌==◌, ◌&&◌, ◌||◌, ◌++◌, ◌∷◌, [], not, nat_le, nat_lt, map, filter, find, option_copied, fold, min, take, length, reverse, position, Bool, None, IfOk, OnOk, OnErr, IsTrue};
 ghost use Rattle.std.specs.List.{list_any, list_all, last_or};
 ghost use Rattle.std.specs.Fn.{FnReturnsAt};
 ghost use Rattle.jsp_lease.specs.Due.{first_item, over_by};
@@ -203,6 +203,16 @@ impl Rows {
     }
 
     // ---- find
+
+    /// The row of this number.
+    pub fn get(&self, number: u64) -> Option<&Row>
+        ensures { option_copied result ≡ find (λ r. r.number == number) self.now }
+    {
+        match &self.kept {
+            Kept::Scanned(rows) => rows.get(number),
+            Kept::Hinted(rows) => rows.get(number),
+        }
+    }
 
     /// Whether a row has this number.
     pub fn has(&self, number: u64) -> bool

@@ -1,5 +1,5 @@
 //! Rows in a plain list, each of which is looked at by every call.
-ghost use Rattle.std.specs.Prelude.{◌≡◌, ◌≤◌, ◌==◌, ◌&&◌, ◌||◌, ◌++◌, ◌∷◌, [], not, nat_le, nat_lt, map, filter, fold, min, take, length, reverse, position, Bool, None, IfOk, OnOk, OnErr, IsTrue};
+ghost use Rattle.std.specs.Prelude.{◌≡◌, ◌≤◌, ◌==◌, ◌&&◌, ◌||◌, ◌++◌, ◌∷◌, [], not, nat_le, nat_lt, map, filter, find, option_copied, fold, min, take, length, reverse, position, Bool, None, IfOk, OnOk, OnErr, IsTrue};
 ghost use Rattle.std.specs.List.{list_any, list_all, last_or};
 ghost use Rattle.std.specs.Fn.{FnReturnsAt};
 ghost use Rattle.jsp_lease.specs.Due.{first_item, over_by};
@@ -141,6 +141,13 @@ impl ScannedRows {
         ensures { length (filter (λ r. r.space == _space) self.now) ≤ result }
     {
         self.items.len()
+    }
+
+    /// The row of this number.
+    pub fn get(&self, number: u64) -> Option<&Row>
+        ensures { option_copied result ≡ find (λ r. r.number == number) self.now }
+    {
+        self.items.iter().find(|r| r.number == number)
     }
 
     /// Whether a row has this number.

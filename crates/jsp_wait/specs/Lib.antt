@@ -1,1 +1,4 @@
 pub mod Waiting
+pub mod Kept
+pub mod Sought
+pub mod Offered

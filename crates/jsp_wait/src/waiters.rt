@@ -1,13 +1,22 @@
 //! The requests that wait. Contracts see them as a list, in the order in which they came.
-ghost use Rattle.std.specs.Prelude.{◌≡◌, ◌==◌, ◌&&◌, ◌++◌, ◌∷◌, [], not, nat_le, map, filter, find, fold, length, reverse, is_some, option_copied, None, IfOk, OnOk, OnErr};
+ghost use Rattle.std.specs.Prelude.{◌≡◌, ◌==◌, ◌&&◌, ◌++◌, ◌∷◌, [], not, map, filter, find, length, is_some, option_copied, IfOk, OnOk, OnErr};
 ghost use Rattle.std.specs.List.{list_any};
 ghost use Rattle.jsp_lease.specs.Due.{first_item, over_by};
 ghost use Rattle.jsp_model.specs.Lookup.{is_caller as calls};
-ghost use Rattle.jsp_sight.specs.Rows.{earlier as earlier_of};
-ghost use Rattle.jsp_wait.specs.Waiting.{blocked_end, asker, askers_under, askers_at};
+ghost use Rattle.jsp_wait.specs.Waiting.{blocked_end, askers_under, askers_at};
+ghost use Rattle.jsp_wait.specs.Offered.{AskForIt, takes_one, waits_no_more};
 
-use jsp_model::{Blocked, Item, Rank};
-use jsp_sight::{earlier, is_caller};
+use crate::asking::{At, OfSession, Under, UnderAny, UnderIt};
+use crate::by_number::Requests;
+use crate::keyed::{askers, copies_of, first_at_places, is_asked, space_of};
+use crate::offer::Offer;
+use crate::scanned::{
+    any_asked, any_takes, asked_at, asked_under, count_asked, drop_at, drop_numbered, drop_of,
+    drop_under, first_numbered, first_over, first_passing, plain_copy, spaces_numbered,
+};
+use crate::taking::{Stirred, TakesOne, first_stirred, first_taker, is_wanted};
+use jsp_keyed::Keyed;
+use jsp_model::{Blocked, Item};
 use jsp_table::Test;
 use jsp_types::{Items, NoMemory};
 use std::alloc::Global;
@@ -23,33 +32,70 @@ pub struct Asker {
 /// The requests that wait.
 #[derive(Drop)]
 pub struct Waiters {
-    requests: Vec<Blocked>,
+    alloc: Global,
+    kept: Kept,
+}
+
+/// How they are kept.
+#[derive(Drop)]
+pub(crate) enum Kept {
+    Scanned(Vec<Blocked>),
+    Keyed(Requests),
 }
 
 impl Model for Waiters {
     ghost use Rattle.std.specs.Prelude.{List};
     ghost use Rattle.jsp_model.specs.declared.state.Blocked.{Blocked};
+    ghost use Rattle.jsp_wait.specs.Kept.{requests_in};
 
     ghost Value = { List Blocked };
 
-    ghost view = { λ w. w.requests.items };
+    ghost view = { λ w. requests_in w.kept };
 }
 
 impl Waiters {
-    /// These requests.
-    pub fn of(requests: Items<Blocked>) -> Self
+    /// These requests, which are looked at one by one.
+    pub fn scanned(alloc: Global, requests: Items<Blocked>) -> Self
         ensures { result ≡ requests }
     {
         Waiters {
-            requests: requests.into_vec(),
+            alloc,
+            kept: Kept::Scanned(requests.into_vec()),
         }
+    }
+
+    /// No requests; they will be found by hints. The keys come from the seed, which clients aren't to
+    /// know.
+    pub fn new(alloc: Global, seed: u64) -> Self
+        ensures { result ≡ [] }
+    {
+        Waiters {
+            alloc,
+            kept: Kept::Keyed(Keyed::new(alloc, seed)),
+        }
+    }
+
+    /// These requests, found by hints.
+    pub fn of(alloc: Global, requests: Items<Blocked>, seed: u64) -> Result<Self, NoMemory>
+        ensures { IfOk result (λ w. w ≡ requests) }
+    {
+        let mut waiters = Waiters::new(alloc, seed);
+        let mut requests = requests.into_vec();
+        requests.reverse();
+        'requests: while let Some(request) = requests.pop() {
+            waiters.push(request)?;
+        }
+        Ok(waiters)
     }
 
     /// A plain copy of these requests.
     pub fn to_items(&self, alloc: Global) -> Result<Items<Blocked>, NoMemory>
         ensures { IfOk result (λ c. c ≡ self.now) }
     {
-        plain_copy(alloc, &self.requests)
+        match &self.kept {
+            Kept::Scanned(requests) => plain_copy(alloc, requests),
+            Kept::Keyed(requests) => copies_of(alloc, requests.places()),
+        }
     }
 
     // ---- add
@@ -59,7 +105,19 @@ impl Waiters {
         ensures ok { OnOk result (self.new ≡ self.old ++ request ∷ []) }
         ensures err { OnErr result (self.new ≡ self.old) }
     {
-        self.requests.push(request)?;
+        match &mut self.kept {
+            Kept::Scanned(requests) => {
+                requests.push(request)?;
+            }
+            Kept::Keyed(requests) => {
+                if let Some(request) = requests.push(request)? {
+                    // Hints are for rising numbers. The machine's rise; others are scanned from here on.
+                    let mut plain = copies_of(self.alloc, requests.places())?.into_vec();
+                    plain.push(request)?;
+                    self.kept = Kept::Scanned(plain);
+                }
+            }
+        }
         Ok(())
     }
 
@@ -69,28 +127,40 @@ impl Waiters {
     pub fn remove(&mut self, number: u64)
         ensures { self.new ≡ filter (λ b. not (b.number == number)) self.old }
     {
-        drop_numbered(&mut self.requests, number);
+        match &mut self.kept {
+            Kept::Scanned(requests) => drop_numbered(requests, number),
+            Kept::Keyed(requests) => requests.remove(number),
+        }
     }
 
     /// The requests of a session go.
     pub fn remove_of(&mut self, session: u64)
         ensures { self.new ≡ filter (λ b. not (b.session == session)) self.old }
     {
-        drop_of(&mut self.requests, session);
+        match &mut self.kept {
+            Kept::Scanned(requests) => drop_of(requests, session),
+            Kept::Keyed(requests) => requests.remove_all(&OfSession { session }),
+        }
     }
 
     /// The requests under a transaction go.
     pub fn remove_under(&mut self, x: u64)
         ensures { self.new ≡ filter (λ b. not (calls b.transaction x)) self.old }
     {
-        drop_under(&mut self.requests, x);
+        match &mut self.kept {
+            Kept::Scanned(requests) => drop_under(requests, x),
+            Kept::Keyed(requests) => requests.remove_all(&UnderIt { transaction: x }),
+        }
     }
 
     /// The requests under transactions that wait at a space go.
     pub fn clear(&mut self, space: u64)
         ensures { self.new ≡ filter (λ b. not (b.space == space && is_some b.transaction)) self.old }
     {
-        drop_at(&mut self.requests, space);
+        match &mut self.kept {
+            Kept::Scanned(requests) => drop_at(requests, space),
+            Kept::Keyed(requests) => requests.remove_all(&UnderAny { space }),
+        }
     }
 
     // ---- find
@@ -99,186 +169,139 @@ impl Waiters {
     pub fn get(&self, number: u64) -> Option<&Blocked>
         ensures { option_copied result ≡ find (λ b. b.number == number) self.now }
     {
-        self.requests.iter().find(|b| b.number == number)
+        match &self.kept {
+            Kept::Scanned(requests) => first_numbered(requests, number),
+            Kept::Keyed(requests) => requests.get(number),
+        }
     }
 
-    /// The first request that passes a test.
+    /// The first request that passes a test. Each is looked at.
     pub fn first<P: Test<Blocked>>(&self, test: &P) -> Option<&Blocked>
         ensures { option_copied result ≡ find (λ b. P.is_passed test.now b) self.now }
     {
-        self.requests.iter().find(|b| test.passes(b))
+        match &self.kept {
+            Kept::Scanned(requests) => first_passing(requests, test),
+            Kept::Keyed(requests) => first_at_places(requests.places(), test),
+        }
     }
 
-    /// The first request at a space that passes a test.
+    /// The first request at a space that passes a test. Each is looked at.
     pub fn first_at<P: Test<Blocked>>(&self, space: u64, test: &P) -> Option<&Blocked>
         ensures { option_copied result ≡ find (λ b. b.space == space && P.is_passed test.now b) self.now }
     {
-        first_among(&self.requests, space, test)
+        self.first(&At { space, test })
+    }
+
+    /// The first request at a space that may be given one of the rows of these numbers.
+    pub fn first_taker<O: Offer>(&self, space: u64, numbers: &[u64], offer: &O) -> Option<&Blocked>
+        requires { AskForIt (O.classes_of offer.now) (O.row_of offer.now) (O.is_taker offer.now) }
+        ensures { option_copied result ≡ find (takes_one (O.is_taker offer.now) space numbers.now) self.now }
+    {
+        match &self.kept {
+            Kept::Scanned(requests) => first_passing(
+                requests,
+                &TakesOne {
+                    space,
+                    numbers,
+                    offer,
+                },
+            ),
+            Kept::Keyed(requests) => first_taker(requests, space, numbers, offer),
+        }
+    }
+
+    /// The first request at a space that waits no more: it may be given one of the rows of these numbers,
+    /// or waited for a conflict that is gone.
+    pub fn first_stirred<O: Offer>(
+        &self,
+        space: u64,
+        numbers: &[u64],
+        offer: &O,
+    ) -> Option<&Blocked>
+        requires { AskForIt (O.classes_of offer.now) (O.row_of offer.now) (O.is_taker offer.now) }
+        ensures { option_copied result ≡ find (waits_no_more (O.is_taker offer.now) (O.is_freed offer.now) space numbers.now) self.now }
+    {
+        match &self.kept {
+            Kept::Scanned(requests) => first_passing(
+                requests,
+                &Stirred {
+                    space,
+                    numbers,
+                    offer,
+                },
+            ),
+            Kept::Keyed(requests) => first_stirred(requests, space, numbers, offer),
+        }
+    }
+
+    /// Whether a request may be given the row of a number.
+    pub fn is_wanted<O: Offer>(&self, number: u64, offer: &O) -> bool
+        requires { AskForIt (O.classes_of offer.now) (O.row_of offer.now) (O.is_taker offer.now) }
+        ensures { result ≡ list_any (λ b. O.is_taker offer.now number b) self.now }
+    {
+        match &self.kept {
+            Kept::Scanned(requests) => any_takes(requests, number, offer),
+            Kept::Keyed(requests) => is_wanted(requests, number, offer),
+        }
     }
 
     /// Whether the session's request of this id waits.
     pub fn is_waiting(&self, session: u64, id: u64) -> bool
         ensures { result ≡ list_any (λ b. b.session == session && b.id == id) self.now }
     {
-        self.requests
-            .iter()
-            .any(|b| b.session == session && b.id == id)
+        match &self.kept {
+            Kept::Scanned(requests) => any_asked(requests, session, id),
+            Kept::Keyed(requests) => is_asked(requests, session, id),
+        }
     }
 
     /// How many of the session's requests wait.
     pub fn count_of(&self, session: u64) -> usize
         ensures { result ≡ length (filter (λ b. b.session == session) self.now) }
     {
-        self.requests
-            .iter()
-            .filter(|b| b.session == session)
-            .count()
+        match &self.kept {
+            Kept::Scanned(requests) => count_asked(requests, session),
+            Kept::Keyed(requests) => requests.count(&OfSession { session }),
+        }
     }
 
     /// The request whose end has come and comes first, as an item.
     pub fn due(&self, time: u64) -> Option<Item>
         ensures { result ≡ first_item (over_by time (map blocked_end self.now)) }
     {
-        first_over(&self.requests, time)
+        match &self.kept {
+            Kept::Scanned(requests) => first_over(requests, time),
+            Kept::Keyed(requests) => requests.due(time),
+        }
     }
 
     /// The spaces of the requests of this number.
     pub fn spaces_of(&self, alloc: Global, number: u64) -> Result<Vec<u64>, NoMemory>
         ensures { IfOk result (λ v. v.items ≡ map (λ b. b.space) (filter (λ b. b.number == number) self.now)) }
     {
-        let named = self.requests.iter().filter(|b| b.number == number);
-        named.map(|b| b.space).collect(alloc)
+        match &self.kept {
+            Kept::Scanned(requests) => spaces_numbered(alloc, requests, number),
+            Kept::Keyed(requests) => space_of(alloc, requests, number),
+        }
     }
 
     /// Who asked those that are under one of these transactions, in arrival order.
     pub fn askers_under(&self, alloc: Global, transactions: &[u64]) -> Result<Vec<Asker>, NoMemory>
         ensures { IfOk result (λ v. v.items ≡ askers_under transactions.now self.now) }
     {
-        asked_under(alloc, &self.requests, transactions)
+        match &self.kept {
+            Kept::Scanned(requests) => asked_under(alloc, requests, transactions),
+            Kept::Keyed(requests) => askers(alloc, requests, &Under { transactions }),
+        }
     }
 
     /// Who asked those that are under a transaction at a space, in arrival order.
     pub fn askers_at(&self, alloc: Global, space: u64) -> Result<Vec<Asker>, NoMemory>
         ensures { IfOk result (λ v. v.items ≡ askers_at space self.now) }
     {
-        asked_at(alloc, &self.requests, space)
-    }
-}
-
-fn plain_copy(alloc: Global, requests: &[Blocked]) -> Result<Items<Blocked>, NoMemory>
-    ensures { IfOk result (λ c. c ≡ requests.now) }
-{
-    let mut copies = Items::new(alloc);
-    for request in requests {
-        copies.push(copy_request(request)?)?;
-    }
-    Ok(copies)
-}
-
-fn copy_request(request: &Blocked) -> Result<Blocked, NoMemory>
-    ensures { IfOk result (λ c. c ≡ request.now) }
-{
-    request.clone()
-}
-
-fn drop_numbered(requests: &mut Vec<Blocked>, number: u64)
-    ensures { requests.new.items ≡ filter (λ b. not (b.number == number)) requests.old.items }
-{
-    requests.retain(|b| !(b.number == number));
-}
-
-fn drop_of(requests: &mut Vec<Blocked>, session: u64)
-    ensures { requests.new.items ≡ filter (λ b. not (b.session == session)) requests.old.items }
-{
-    requests.retain(|b| !(b.session == session));
-}
-
-fn drop_under(requests: &mut Vec<Blocked>, x: u64)
-    ensures { requests.new.items ≡ filter (λ b. not (calls b.transaction x)) requests.old.items }
-{
-    requests.retain(|b| !is_caller(b.transaction, x));
-}
-
-fn drop_at(requests: &mut Vec<Blocked>, space: u64)
-    ensures { requests.new.items ≡ filter (λ b. not (b.space == space && is_some b.transaction)) requests.old.items }
-{
-    requests.retain(|b| !(b.space == space && b.transaction.is_some()));
-}
-
-fn first_among<'a, P: Test<Blocked>>(
-    requests: &'a [Blocked],
-    space: u64,
-    test: &P,
-) -> Option<&'a Blocked>
-    ensures { option_copied result ≡ find (λ b. b.space == space && P.is_passed test.now b) requests.now }
-{
-    requests.iter().find(|b| b.space == space && test.passes(b))
-}
-
-/// The least of those whose end has come. They are gone through from the last to the first, and the
-/// earlier one is kept.
-fn first_over(requests: &[Blocked], time: u64) -> Option<Item>
-    ensures { result ≡ first_item (over_by time (map blocked_end requests.now)) }
-{
-    last_to_first(requests, time)
-}
-
-fn last_to_first(requests: &[Blocked], time: u64) -> Option<Item>
-    ensures { result ≡ fold earlier_of None (map blocked_end (filter (λ b. nat_le b.end time) (reverse requests.now))) }
-{
-    let over = requests.iter().rev().filter(|b| b.end <= time);
-    over.map(request_item).fold(None, kept)
-}
-
-fn kept(other: Option<Item>, item: Item) -> Option<Item>
-    ensures { result ≡ earlier_of other item }
-{
-    earlier(other, item)
-}
-
-fn request_item(request: &Blocked) -> Item
-    ensures { result ≡ blocked_end request.now }
-{
-    Item {
-        end: request.end,
-        rank: Rank::Blocked,
-        number: request.number,
-    }
-}
-
-fn asked_under(
-    alloc: Global,
-    requests: &[Blocked],
-    transactions: &[u64],
-) -> Result<Vec<Asker>, NoMemory>
-    ensures { IfOk result (λ v. v.items ≡ askers_under transactions.now requests.now) }
-{
-    let under = requests
-        .iter()
-        .filter(|b| is_under(b.transaction, transactions));
-    under.map(asker_of).collect(alloc)
-}
-
-fn is_under(caller: Option<u64>, transactions: &[u64]) -> bool
-    ensures { result ≡ list_any (calls caller) transactions.now }
-{
-    transactions.iter().any(|x| is_caller(caller, *x))
-}
-
-fn asked_at(alloc: Global, requests: &[Blocked], space: u64) -> Result<Vec<Asker>, NoMemory>
-    ensures { IfOk result (λ v. v.items ≡ askers_at space requests.now) }
-{
-    let there = requests
-        .iter()
-        .filter(|b| b.space == space && b.transaction.is_some());
-    there.map(asker_of).collect(alloc)
-}
-
-fn asker_of(request: &Blocked) -> Asker
-    ensures { result ≡ asker request.now }
-{
-    Asker {
-        session: request.session,
-        id: request.id,
+        match &self.kept {
+            Kept::Scanned(requests) => asked_at(alloc, requests, space),
+            Kept::Keyed(requests) => askers(alloc, requests, &UnderAny { space }),
+        }
     }
 }

@@ -4,7 +4,7 @@ use Rattle.std.proofs.lemmas.Grind.{common_steps}
 use Rattle.jsp_types.specs.declared.class.Class.{Class}
 use Rattle.jsp_types.specs.declared.entry.Template.TheVariants.{Like}
 use Rattle.jsp_types.specs.Matching.{is_null}
-use Rattle.jsp_index.specs.Keys.{field_key}
+use Rattle.jsp_keyed.specs.Keys.{field_key}
 use Rattle.jsp_index.specs.Hinted.{IsKeyFor}
 use Rattle.jsp_index.proofs.Covering.{field_covers}
 use Rattle.jsp_index.proofs.choosing.rarest_key.Goals as goal

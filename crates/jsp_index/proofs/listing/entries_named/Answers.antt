@@ -2,8 +2,8 @@ use Rattle.std.proofs.Common.{◌≡◌, ◌∷◌, [], ◌&&◌, List, Some, le
 use Rattle.std.specs.Prelude.{filter, find}
 use Rattle.jsp_model.specs.declared.state.Row.{Row}
 use Rattle.jsp_table.specs.Numbers.{contains}
-use Rattle.jsp_index.specs.Finding.{is_next}
-use Rattle.jsp_index.proofs.Walks.{one_passes, none_passes, listed_more, listed_all}
+use Rattle.jsp_index.specs.Finding.{number, is_next}
+use Rattle.jsp_keyed.proofs.Walking.{listed_all, listed_more, none_passes, one_passes}
 use Rattle.jsp_index.proofs.listing.entries_named.Goals as goal
 
 pub rows-smaller : goal.rows-smaller
@@ -12,7 +12,7 @@ rows-smaller g c =
     let rows = c.args.rows.now in
     let r = c.in-Some.row.now in
     let there : find (is_next passed c.rows.after) rows ≡ Some r = sym c.in-Some.ensures in
-    let next : filter (is_next passed c.rows.after) rows ≡ r ∷ filter (is_next passed r.number) rows = one_passes passed c.rows.after rows r c.places.ensures.numbered.rising there in
+    let next : filter (is_next passed c.rows.after) rows ≡ r ∷ filter (is_next passed r.number) rows = one_passes number passed c.rows.after rows r c.places.ensures.numbered.rising there in
     omega (arith, ap (λ (w : List Row). length w) next)
 
 pub rows-preserved : goal.rows-preserved
@@ -21,12 +21,12 @@ rows-preserved g c =
     let rows = c.args.rows.now in
     let r = c.in-Some.row.now in
     let there : find (is_next passed c.rows.after) rows ≡ Some r = sym c.in-Some.ensures in
-    let next : filter (is_next passed c.rows.after) rows ≡ r ∷ filter (is_next passed r.number) rows = one_passes passed c.rows.after rows r c.places.ensures.numbered.rising there in
-    listed_more (λ (r : Row). r.entry) c.rows.entries c.add_entry.new.entries r (filter (is_next passed r.number) rows) (filter (is_next passed c.rows.after) rows) (map (λ (r : Row). r.entry) (filter (is_next passed 0) rows)) next c.rows.invariant c.in_ok-add_entry.ensures
+    let next : filter (is_next passed c.rows.after) rows ≡ r ∷ filter (is_next passed r.number) rows = one_passes number passed c.rows.after rows r c.places.ensures.numbered.rising there in
+    listed_more number (λ (r : Row). r.entry) c.rows.entries c.add_entry.new.entries r (filter (is_next passed r.number) rows) (filter (is_next passed c.rows.after) rows) (map (λ (r : Row). r.entry) (filter (is_next passed 0) rows)) next c.rows.invariant c.in_ok-add_entry.ensures
 
 pub returns-clause-found : goal.returns-clause-found
 returns-clause-found g c =
     let passed = λ (r : Row). contains c.args.numbers.now r.number && g.P.Test.is_passed c.args.test.now r in
     let rows = c.args.rows.now in
     let none : filter (is_next passed c.rows.after) rows ≡ [] = none_passes (is_next passed c.rows.after) rows (sym c.in_default.ensures) in
-    listed_all (λ (r : Row). r.entry) c.rows.entries (filter (is_next passed c.rows.after) rows) (map (λ (r : Row). r.entry) (filter (is_next passed 0) rows)) none c.rows.invariant
+    listed_all number (λ (r : Row). r.entry) c.rows.entries (filter (is_next passed c.rows.after) rows) (map (λ (r : Row). r.entry) (filter (is_next passed 0) rows)) none c.rows.invariant

@@ -1,7 +1,7 @@
 use Rattle.std.proofs.Common.{◌<◌, length, arith, rules}
 use Rattle.std.proofs.lemmas.Grind.{common_steps}
 use Rattle.jsp_index.specs.Hinted.{Keeps}
-use Rattle.jsp_index.specs.Keys.{space_key, class_key}
+use Rattle.jsp_keyed.specs.Keys.{space_key, class_key}
 use Rattle.jsp_index.proofs.Named.{one_more}
 use Rattle.jsp_index.proofs.naming.add_hints.Goals as goal
 

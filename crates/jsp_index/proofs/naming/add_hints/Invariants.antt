@@ -3,7 +3,7 @@ use Rattle.std.specs.List.{AllByRecursion}
 use Rattle.jsp_types.specs.Matching.{is_null}
 use Rattle.jsp_table.specs.Numbers.{names}
 use Rattle.jsp_index.specs.Hinted.{Keeps}
-use Rattle.jsp_index.specs.Keys.{space_key, class_key, field_key}
+use Rattle.jsp_keyed.specs.Keys.{space_key, class_key, field_key}
 use Rattle.jsp_index.proofs.naming.add_hints.Given as goal
 
 abbrev pub invariant-fields : goal.invariant-fields

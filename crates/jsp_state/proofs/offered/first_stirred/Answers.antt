@@ -1,14 +1,16 @@
-use Rattle.std.proofs.Common.{◌∙◌, ap, ◌==◌, ◌&&◌, ◌||◌, not, find}
-use Rattle.std.specs.List.{list_any}
+use Rattle.std.proofs.Common.{◌∙◌, ap, not, find}
 use Rattle.jsp_model.specs.declared.state.State.{State}
-use Rattle.jsp_model.specs.declared.state.Blocked.{Blocked}
-use Rattle.jsp_model.specs.Lookup.{contains}
-use Rattle.jsp_model.specs.Sight.{available, has_conflict, is_if}
-use Rattle.jsp_state.proofs.OnOffer.{stirred_are}
+use Rattle.jsp_model.specs.Sight.{has_conflict}
+use Rattle.jsp_wait.specs.Offered.{waits_no_more}
+use Rattle.jsp_state.specs.Taking.{may_take}
+use Rattle.jsp_state.proofs.OnOffer.{stirred_of, ask_for_it}
 use Rattle.jsp_state.proofs.offered.first_stirred.Goals as goal
+
+pub first_stirred-requires : goal.first_stirred-requires
+first_stirred-requires c = ask_for_it c.args.state.now
 
 pub returns : goal.returns
 returns c =
-    c.first_at.ensures
-    ∙ ap (λ (st : State). find (λ (b : Blocked). b.space == c.args.space && (list_any (contains (available c.args.state.now b)) c.args.numbers.now || (is_if b.form && not (has_conflict c.args.state.now b)))) st.blocked) c.state.view_is
-    ∙ stirred_are c.args.state.now c.args.numbers.now c.args.space c.requires
+    c.first_stirred.ensures
+    ∙ ap (λ (st : State). find (waits_no_more (may_take c.args.state.now) (λ b. not (has_conflict c.args.state.now b)) c.args.space c.args.numbers.now) st.blocked) c.state.view_is
+    ∙ stirred_of c.args.state.now c.args.numbers.now c.args.space c.requires.rising c.requires.offered

@@ -2,8 +2,9 @@ use Rattle.std.proofs.Common.{◌≡◌, List, length, take, ap, ◌∙◌}
 use Rattle.std.specs.Prelude.{filter}
 use Rattle.jsp_model.specs.declared.state.Row.{Row}
 use Rattle.jsp_sight.specs.Rows.{offered}
-use Rattle.jsp_index.specs.Finding.{is_next}
-use Rattle.jsp_index.proofs.Walks.{from_start, length_mapped}
+use Rattle.jsp_index.specs.Finding.{number, is_next}
+use Rattle.jsp_index.proofs.Walks.{length_mapped}
+use Rattle.jsp_keyed.proofs.Walking.{from_start}
 use Rattle.jsp_index.proofs.hinted.HintedRows.count_available.Goals as goal
 
 pub returns : goal.returns
@@ -12,5 +13,5 @@ returns c =
     let p = offered c.args.classes.now c.args.blocked.now in
     let inside : List Row = c.self.inside.rows in
     let up = c.count_found.ensures.numbered.positive in
-    let all : filter (is_next p 0) inside ≡ filter p rows = from_start p inside up ∙ ap (filter p) c.self.view_is in
+    let all : filter (is_next p 0) inside ≡ filter p rows = from_start number p inside up ∙ ap (filter p) c.self.view_is in
     c.count_found.ensures.found ∙ (ap (λ (w : List Row). length (take c.args.most w)) all ∙ length_mapped (λ (r : Row). r.number) c.args.most (filter p rows))

@@ -5,11 +5,12 @@ use Rattle.std.specs.HashMap.{get}
 use Rattle.std.proofs.lemmas.Grind.{common_steps}
 use Rattle.jsp_model.specs.declared.state.Row.{Row}
 use Rattle.jsp_table.specs.Numbers.{contains}
-use Rattle.jsp_index.specs.Finding.{is_next}
+use Rattle.jsp_index.specs.Finding.{number, is_next}
 use Rattle.jsp_index.specs.Holding.{IsHeld}
 use Rattle.jsp_index.proofs.Narrowing.{not_named}
 use Rattle.jsp_index.proofs.Holders.{is_changing, changing_named, changing_none}
-use Rattle.jsp_index.proofs.Walks.{named_filter, none_filter, one_passes, none_passes, any_empty, any_filled}
+use Rattle.jsp_index.proofs.Walks.{named_filter, none_filter, any_empty, any_filled}
+use Rattle.jsp_keyed.proofs.Walking.{none_passes, one_passes}
 use Rattle.jsp_index.proofs.hinted.HintedRows.has_changed.Goals as goal
 
 pub returns-in_default : goal.returns-in_default
@@ -46,5 +47,5 @@ returns-in-Some-first_named c =
     let all = named_filter (IsHeld holders) p (λ (r : Row). contains ns r.number) rows c.places.ensures.numbered.positive c.self.invariant
     (λ r h q. sym (ap (λ o. option_map_or (λ ns. contains ns r.number) o false) there) ∙ changing_named holders x c.args.space r h q) in
     let q = λ (r : Row). contains ns r.number && p r in
-    let one = one_passes q 0 rows r c.places.ensures.numbered.rising (sym c.in-Some-first_named.ensures) in
+    let one = one_passes number q 0 rows r c.places.ensures.numbered.rising (sym c.in-Some-first_named.ensures) in
     sym (any_filled p c.args.self.now (filter (is_next q r.number) rows) r (ap (filter p) (sym c.self.view_is) ∙ (sym all ∙ one)))

@@ -1,9 +1,10 @@
 use Rattle.std.proofs.Common.{◌≡◌, Some, None, ap, sym, subst, ◌∙◌}
 use Rattle.std.specs.Prelude.{find}
 use Rattle.jsp_sight.specs.Rows.{held}
-use Rattle.jsp_index.specs.Finding.{is_next}
+use Rattle.jsp_index.specs.Finding.{number, is_next}
 use Rattle.jsp_index.specs.Numbered.{AreNumbered}
-use Rattle.jsp_index.proofs.Single.{none_any, some_any, start_find}
+use Rattle.jsp_index.proofs.Single.{none_any, some_any}
+use Rattle.jsp_keyed.proofs.Walking.{start_find}
 use Rattle.jsp_index.proofs.hinted.HintedRows.has_conflict.Goals as goal
 
 pub returns-in-None : goal.returns-in-None
@@ -11,7 +12,7 @@ returns-in-None c =
     let rows = c.args.self.now in
     let p = held c.args.classes.now c.args.blocked.now in
     let up = (subst AreNumbered c.self.view_is c.first_above.ensures.numbered).positive in
-    let none : find p rows ≡ None = sym (start_find p rows up) ∙ (ap (find (is_next p 0)) (sym c.self.view_is) ∙ sym c.in-None.ensures.found) in
+    let none : find p rows ≡ None = sym (start_find number p rows up) ∙ (ap (find (is_next p 0)) (sym c.self.view_is) ∙ sym c.in-None.ensures.found) in
     sym (none_any p rows none)
 
 pub returns-in-Some : goal.returns-in-Some
@@ -19,5 +20,5 @@ returns-in-Some c =
     let rows = c.args.self.now in
     let p = held c.args.classes.now c.args.blocked.now in
     let up = (subst AreNumbered c.self.view_is c.first_above.ensures.numbered).positive in
-    let there : find p rows ≡ Some c.in-Some.field-0.now = sym (start_find p rows up) ∙ (ap (find (is_next p 0)) (sym c.self.view_is) ∙ sym c.in-Some.ensures.found) in
+    let there : find p rows ≡ Some c.in-Some.field-0.now = sym (start_find number p rows up) ∙ (ap (find (is_next p 0)) (sym c.self.view_is) ∙ sym c.in-Some.ensures.found) in
     sym (some_any p rows c.in-Some.field-0.now there)

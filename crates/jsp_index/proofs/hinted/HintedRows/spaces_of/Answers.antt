@@ -5,7 +5,7 @@ use Rattle.jsp_model.specs.declared.state.Row.{Row}
 use Rattle.jsp_index.specs.Finding.{row_numbered}
 use Rattle.jsp_index.specs.Numbered.{AreNumbered}
 use Rattle.jsp_index.proofs.Single.{one_filtered}
-use Rattle.jsp_index.proofs.Walks.{none_passes}
+use Rattle.jsp_keyed.proofs.Walking.{none_passes}
 use Rattle.jsp_index.proofs.hinted.HintedRows.spaces_of.Goals as goal
 
 pub returns-in_default : goal.returns-in_default

@@ -1,0 +1,24 @@
+//! Things found by number, by what they are asked for, and by end.
+//!
+//! [`Keyed`] is a list of things in rising order of their numbers, and contracts see it as that list.
+//! What is kept says by [`Keying`] under which keys it is found and when it ends. Under each key stands
+//! a list of numbers, and the ends stand in leases.
+//!
+//! A list of numbers names at least each thing that has its key, and may name others, so it never
+//! decides: each thing that is named gets the full test, and what is found first is the first of all
+//! that pass, as each contract says. Adding is whole or not at all; nothing else takes memory.
+#![tactic(auto)]
+
+mod adding;
+mod counting;
+mod finding;
+mod keyed;
+mod keying;
+mod keys;
+mod naming;
+
+pub use finding::{first_under, lesser};
+pub use jsp_types::NoMemory;
+pub use keyed::Keyed;
+pub use keying::{Keying, Keys};
+pub use keys::{key_of_class, key_of_field, key_of_number, key_of_space};

@@ -1,0 +1,151 @@
+//! The keys of requests that wait.
+ghost use Rattle.std.specs.Prelude.{◌≡◌, ◌<◌, length, slice_index, option_copied};
+ghost use Rattle.jsp_model.specs.declared.state.Blocked.{Blocked as OfBlocked};
+ghost use Rattle.jsp_lease.specs.declared.item.Rank.TheVariants.{Blocked as OfRank};
+ghost use Rattle.jsp_wait.specs.Sought.{session_key, transaction_key, under_key, if_key, any_key, caller_key, under_or, if_or, first_value, fields_key, template_key, request_keys};
+
+use jsp_keyed::{Keyed, Keying, key_of_field, key_of_number};
+use jsp_model::{Blocked, Rank};
+use jsp_sight::is_if;
+use jsp_table::Numbering;
+use jsp_types::{Template, Text, Value};
+
+/// Requests go by their numbers. Each is named under its session, its transaction, what its form waits
+/// for, and under one key for each of its templates: the first value that it asks for.
+#[derive(Drop)]
+pub(crate) struct ByNumber {}
+
+/// The requests that wait, found by hints.
+pub(crate) type Requests = Keyed<Blocked, ByNumber>;
+
+impl Numbering<Blocked> for ByNumber {
+    ghost number_of = { λ b. b.number };
+
+    fn number(request: &Blocked) -> u64 {
+        request.number
+    }
+}
+
+impl Keying<Blocked> for ByNumber {
+    ghost keys_of = { request_keys };
+
+    ghost end_of = { λ b. b.end };
+
+    ghost rank_of = { OfRank };
+
+    fn count(_seed: u64, request: &Blocked) -> usize {
+        request.templates.as_slice().len() + 4
+    }
+
+    fn key(seed: u64, request: &Blocked, place: usize) -> u64 {
+        key_at(seed, request, place)
+    }
+
+    fn end(request: &Blocked) -> u64 {
+        request.end
+    }
+
+    fn rank() -> Rank {
+        Rank::Blocked
+    }
+}
+
+fn key_at(seed: u64, request: &Blocked, place: usize) -> u64
+    requires { place < length (request_keys seed request.now) }
+    ensures { result ≡ slice_index (request_keys seed request.now) place }
+{
+    match place {
+        0 => key_of_session(seed, request.session),
+        1 => key_of_caller(seed, request),
+        2 => key_if_under(seed, request),
+        3 => key_if_held(seed, request),
+        _ => key_of_template(
+            seed,
+            request.space,
+            &request.templates.as_slice()[place - 4],
+        ),
+    }
+}
+
+fn key_of_caller(seed: u64, request: &Blocked) -> u64
+    ensures { result ≡ caller_key seed request.now }
+{
+    match request.transaction {
+        None => key_of_session(seed, request.session),
+        Some(x) => key_of_transaction(seed, x),
+    }
+}
+
+fn key_if_under(seed: u64, request: &Blocked) -> u64
+    ensures { result ≡ under_or seed request.now }
+{
+    if request.transaction.is_some() {
+        key_of_under(seed, request.space)
+    } else {
+        key_of_session(seed, request.session)
+    }
+}
+
+fn key_if_held(seed: u64, request: &Blocked) -> u64
+    ensures { result ≡ if_or seed request.now }
+{
+    if is_if(request.form) {
+        key_of_if(seed, request.space)
+    } else {
+        key_of_session(seed, request.session)
+    }
+}
+
+pub(crate) fn key_of_session(seed: u64, session: u64) -> u64
+    ensures { result ≡ session_key seed session }
+{
+    key_of_number(seed, 4, session)
+}
+
+pub(crate) fn key_of_transaction(seed: u64, x: u64) -> u64
+    ensures { result ≡ transaction_key seed x }
+{
+    key_of_number(seed, 5, x)
+}
+
+pub(crate) fn key_of_under(seed: u64, space: u64) -> u64
+    ensures { result ≡ under_key seed space }
+{
+    key_of_number(seed, 6, space)
+}
+
+pub(crate) fn key_of_if(seed: u64, space: u64) -> u64
+    ensures { result ≡ if_key seed space }
+{
+    key_of_number(seed, 7, space)
+}
+
+pub(crate) fn key_of_any(seed: u64, space: u64) -> u64
+    ensures { result ≡ any_key seed space }
+{
+    key_of_number(seed, 8, space)
+}
+
+fn key_of_template(seed: u64, space: u64, template: &Template) -> u64
+    ensures { result ≡ template_key seed space template.now }
+{
+    match template {
+        Template::Any => key_of_any(seed, space),
+        Template::Like(like) => key_of_fields(seed, space, like.fields.as_slice()),
+    }
+}
+
+fn key_of_fields(seed: u64, space: u64, fields: &[(Text, Value)]) -> u64
+    ensures { result ≡ fields_key seed space fields.now }
+{
+    match value_asked(fields) {
+        None => key_of_any(seed, space),
+        Some(field) => key_of_field(seed, space, field.0.as_str(), &field.1),
+    }
+}
+
+fn value_asked(fields: &[(Text, Value)]) -> Option<&(Text, Value)>
+    ensures { option_copied result ≡ first_value fields.now }
+{
+    fields.iter().find(|f| !f.1.is_null())
+}
