@@ -5,7 +5,7 @@ ghost use Rattle.jsp_model.specs.Quiet.{are_quiet as all_quiet};
 ghost use Rattle.jsp_model.specs.Touches.{touches as touched, ask_touches as touched_by_ask, item_touches as touched_by_item, lease_touches as touched_by_lease, set_touches as touched_by_set, name_touches as touched_by_name};
 
 use jsp_core::{Core, LiveImage};
-use jsp_model::{Joined, MatchSet, Step};
+use jsp_model::{Joined, Step};
 use jsp_state::{is_quiet, named, space_named, transaction_of};
 use jsp_types::{Items, NoMemory};
 use jsp_wire::Ask;
@@ -131,14 +131,7 @@ fn lease_touches(alloc: Global, state: &Core, number: u64) -> Result<Vec<u64>, N
 fn set_touches(alloc: Global, state: &Core, number: u64) -> Result<Vec<u64>, NoMemory>
     ensures { IfOk result (λ v. v.items ≡ touched_by_set state.now number) }
 {
-    spaces_of_sets(alloc, state.sets.as_slice(), number)
-}
-
-fn spaces_of_sets(alloc: Global, sets: &[MatchSet], number: u64) -> Result<Vec<u64>, NoMemory>
-    ensures { IfOk result (λ v. v.items ≡ map (λ m. m.space) (filter (λ m. m.number == number) sets.now)) }
-{
-    let named = sets.iter().filter(|m| m.number == number);
-    named.map(|m| m.space).collect(alloc)
+    state.sets.spaces_of(alloc, number)
 }
 
 /// The spaces that joined the transaction.

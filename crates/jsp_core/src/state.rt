@@ -2,12 +2,15 @@
 ghost use Rattle.std.specs.Prelude.{◌≡◌, IfOk, IsTrue};
 ghost use Rattle.jsp_model.specs.Limits.{are_outboxes};
 
-use jsp_model::{Blocked, Commit, MatchSet, Session, Space, State, Transaction};
+use jsp_model::{
+    Blocked, Commit, MatchSet, Outbox, Registration, Row, Session, Space, State, Transaction,
+};
 use jsp_notify::Registrations;
 use jsp_outbox::Outboxes;
 use jsp_store::{Keeping, Rows};
+use jsp_txn::Transactions;
 use jsp_types::{Classes, Items, NoMemory};
-use jsp_wait::Waiters;
+use jsp_wait::{MatchSets, Waiters};
 use std::alloc::Global;
 use std::marker::Model;
 
@@ -23,9 +26,9 @@ pub struct Core {
     pub rows: Rows,
     pub registrations: Registrations,
     pub blocked: Waiters,
-    pub transactions: Items<Transaction>,
+    pub transactions: Transactions,
     pub commits: Items<Commit>,
-    pub sets: Items<MatchSet>,
+    pub sets: MatchSets,
     pub outboxes: Outboxes,
 }
 
@@ -38,8 +41,7 @@ impl Model for Core {
 }
 
 impl Core {
-    /// The program's form of a state, whose rows and waiting requests are kept so. Only they and its outboxes
-    /// take memory.
+    /// The program's form of a state, whose lists are kept so.
     pub fn of(alloc: Global, state: State, keeping: Keeping) -> Result<Core, NoMemory>
         requires { IsTrue (are_outboxes state.outboxes) }
         ensures { IfOk result (λ c. c ≡ state) }
@@ -59,6 +61,14 @@ impl Core {
             sets,
             outboxes,
         } = state;
+        let (rows, registrations, blocked) = searched_of(
+            alloc,
+            rows,
+            registrations,
+            blocked,
+            keeping,
+        )?;
+        let (transactions, sets, outboxes) = kept_of(alloc, transactions, sets, outboxes, keeping)?;
         Ok(Core {
             classes,
             spaces,
@@ -66,13 +76,13 @@ impl Core {
             last_session,
             time,
             next_number,
-            rows: Rows::of(alloc, rows, keeping)?,
-            registrations: Registrations::of(registrations),
-            blocked: waiters_of(alloc, blocked, keeping)?,
+            rows,
+            registrations,
+            blocked,
             transactions,
             commits,
             sets,
-            outboxes: Outboxes::of(outboxes)?,
+            outboxes,
         })
     }
 
@@ -90,12 +100,46 @@ impl Core {
             rows: self.rows.to_items()?,
             registrations: self.registrations.to_items()?,
             blocked: self.blocked.to_items(alloc)?,
-            transactions: copy_transactions(&self.transactions)?,
+            transactions: self.transactions.to_items()?,
             commits: copy_commits(&self.commits)?,
-            sets: copy_sets(&self.sets)?,
+            sets: self.sets.to_items()?,
             outboxes: self.outboxes.to_items(alloc)?,
         })
     }
+}
+
+/// The lists that are searched by what they hold. (In two parts, so that few things have to go where
+/// memory is refused.)
+fn searched_of(
+    alloc: Global,
+    rows: Items<Row>,
+    registrations: Items<Registration>,
+    blocked: Items<Blocked>,
+    keeping: Keeping,
+) -> Result<(Rows, Registrations, Waiters), NoMemory>
+    ensures { IfOk result (λ l. (l.0 ≡ rows) × (l.1 ≡ registrations) × (l.2 ≡ blocked)) }
+{
+    let blocked = waiters_of(alloc, blocked, keeping)?;
+    let registrations = registrations_of(alloc, registrations, keeping)?;
+    let rows = Rows::of(alloc, rows, keeping)?;
+    Ok((rows, registrations, blocked))
+}
+
+/// The other lists of things that come and go.
+fn kept_of(
+    alloc: Global,
+    transactions: Items<Transaction>,
+    sets: Items<MatchSet>,
+    outboxes: Items<Outbox>,
+    keeping: Keeping,
+) -> Result<(Transactions, MatchSets, Outboxes), NoMemory>
+    requires { IsTrue (are_outboxes outboxes) }
+    ensures { IfOk result (λ l. (l.0 ≡ transactions) × (l.1 ≡ sets) × (l.2 ≡ outboxes)) }
+{
+    let transactions = transactions_of(alloc, transactions, keeping)?;
+    let sets = sets_of(alloc, sets, keeping)?;
+    let outboxes = Outboxes::of(outboxes)?;
+    Ok((transactions, sets, outboxes))
 }
 
 fn waiters_of(alloc: Global, blocked: Items<Blocked>, keeping: Keeping) -> Result<Waiters, NoMemory>
@@ -104,6 +148,41 @@ fn waiters_of(alloc: Global, blocked: Items<Blocked>, keeping: Keeping) -> Resul
     match keeping {
         Keeping::Scanned => Ok(Waiters::scanned(alloc, blocked)),
         Keeping::Hinted { seed } => Waiters::of(alloc, blocked, seed),
+    }
+}
+
+fn registrations_of(
+    alloc: Global,
+    registrations: Items<Registration>,
+    keeping: Keeping,
+) -> Result<Registrations, NoMemory>
+    ensures { IfOk result (λ r. r ≡ registrations) }
+{
+    match keeping {
+        Keeping::Scanned => Ok(Registrations::scanned(alloc, registrations)),
+        Keeping::Hinted { seed } => Registrations::of(alloc, registrations, seed),
+    }
+}
+
+fn transactions_of(
+    alloc: Global,
+    transactions: Items<Transaction>,
+    keeping: Keeping,
+) -> Result<Transactions, NoMemory>
+    ensures { IfOk result (λ t. t ≡ transactions) }
+{
+    match keeping {
+        Keeping::Scanned => Ok(Transactions::scanned(alloc, transactions)),
+        Keeping::Hinted { seed } => Transactions::of(alloc, transactions, seed),
+    }
+}
+
+fn sets_of(alloc: Global, sets: Items<MatchSet>, keeping: Keeping) -> Result<MatchSets, NoMemory>
+    ensures { IfOk result (λ m. m ≡ sets) }
+{
+    match keeping {
+        Keeping::Scanned => Ok(MatchSets::scanned(alloc, sets)),
+        Keeping::Hinted { seed } => MatchSets::of(alloc, sets, seed),
     }
 }
 
@@ -125,20 +204,8 @@ fn copy_sessions(sessions: &Items<Session>) -> Result<Items<Session>, NoMemory>
     sessions.clone()
 }
 
-fn copy_transactions(transactions: &Items<Transaction>) -> Result<Items<Transaction>, NoMemory>
-    ensures { IfOk result (λ c. c ≡ transactions.now) }
-{
-    transactions.clone()
-}
-
 fn copy_commits(commits: &Items<Commit>) -> Result<Items<Commit>, NoMemory>
     ensures { IfOk result (λ c. c ≡ commits.now) }
 {
     commits.clone()
-}
-
-fn copy_sets(sets: &Items<MatchSet>) -> Result<Items<MatchSet>, NoMemory>
-    ensures { IfOk result (λ c. c ≡ sets.now) }
-{
-    sets.clone()
 }

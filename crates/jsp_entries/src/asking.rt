@@ -118,7 +118,6 @@ pub fn accept_one(
     requires time { state.old.time ≤ LAST_TIME }
     requires numbers { state.old.next_number ≤ LAST_NUMBER + 1 }
     requires rows { IsTrue (are_rising 0 state.old.next_number (map (λ r. r.number) state.old.rows)) }
-    requires transactions { IsTrue (are_rising 0 state.old.next_number (map (λ t. t.number) state.old.transactions)) }
     requires accepted { first_that (rows_tests state.old session id (one_of form search.now)) ≡ None }
     requires given { is_choice state.old (waiting_as state.old session id (one_of form search.now)) rows.now ≡ true }
     ensures ok { OnOk result (state.new ≡ give_or_block state.old session id (one_of form search.now) rows.now) }
@@ -140,7 +139,6 @@ pub fn accept_many(
     requires time { state.old.time ≤ LAST_TIME }
     requires numbers { state.old.next_number ≤ LAST_NUMBER + 1 }
     requires rows { IsTrue (are_rising 0 state.old.next_number (map (λ r. r.number) state.old.rows)) }
-    requires transactions { IsTrue (are_rising 0 state.old.next_number (map (λ t. t.number) state.old.transactions)) }
     requires accepted { first_that (rows_tests state.old session id (many_of search.now)) ≡ None }
     requires given { is_choice state.old (waiting_as state.old session id (many_of search.now)) rows.now ≡ true }
     ensures ok { OnOk result (state.new ≡ give_or_block state.old session id (many_of search.now) rows.now) }
@@ -239,7 +237,6 @@ pub fn refuse_entries(state: &Core, write: &WriteAll) -> Option<Refusal>
 pub fn accept_entry(alloc: Global, state: &mut Core, write: &Write) -> Result<(), NoMemory>
     requires time { state.old.time ≤ LAST_TIME }
     requires numbers { state.old.next_number ≤ LAST_NUMBER + 1 }
-    requires transactions { IsTrue (are_rising 0 state.old.next_number (map (λ t. t.number) state.old.transactions)) }
     requires accepted { first_that (write_tests state.old (entry_written write.now)) ≡ None }
     ensures ok { OnOk result (state.new ≡ written state.old (entry_written write.now)) }
     ensures err { OnErr result (state.new ≡ state.old) }
@@ -252,7 +249,6 @@ pub fn accept_entry(alloc: Global, state: &mut Core, write: &Write) -> Result<()
 pub fn accept_entries(alloc: Global, state: &mut Core, write: &WriteAll) -> Result<(), NoMemory>
     requires time { state.old.time ≤ LAST_TIME }
     requires numbers { state.old.next_number ≤ LAST_NUMBER + 1 }
-    requires transactions { IsTrue (are_rising 0 state.old.next_number (map (λ t. t.number) state.old.transactions)) }
     requires few { length write.now.entries ≤ 64 }
     requires accepted { first_that (write_tests state.old (entries_written write.now)) ≡ None }
     ensures ok { OnOk result (state.new ≡ written state.old (entries_written write.now)) }

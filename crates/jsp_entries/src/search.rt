@@ -13,7 +13,7 @@ ghost use Rattle.jsp_model.specs.Answers.{rows_answer, is_many as many};
 ghost use Rattle.jsp_model.specs.Refusals.{rows_tests, is_negative as lies_below_zero};
 ghost use Rattle.jsp_state.specs.Fitting.{AllFit};
 ghost use Rattle.jsp_entries.specs.Asking.{rows_of};
-ghost use Rattle.jsp_entries.specs.Searching.{waiting_tests, form_and_caller, reply_with};
+ghost use Rattle.jsp_entries.specs.Searching.{waiting_tests, waiting_limits, if_blocked, blocked_or_given, form_and_caller, reply_with};
 ghost use Rattle.jsp_model.specs.declared.limits.TheConstants.{LAST_TIME};
 
 use crate::blocking::{RowsAsked, as_blocked, blocked_named, unblock};
@@ -22,7 +22,8 @@ use jsp_core::Core;
 use jsp_model::{Blocked, Form};
 use jsp_reply::{Refusal, Reply};
 use jsp_state::{
-    entries_of, is_used_up, must_wait, named, space_refusal, templates_refusal, waits_for_many,
+    caller_of, entries_of, is_used_up, must_wait, named, place_of, space_refusal,
+    templates_refusal, waits_for_many,
 };
 use jsp_transactions::{join, leave};
 use jsp_types::{Entry, Items, NoMemory};
@@ -63,16 +64,25 @@ fn refuse_to_wait(
     if is_negative(asked) {
         return Ok(Some(Refusal::BadTimeout));
     }
-    if !would_block(alloc, state, session, id, asked)? {
+    let Some(refusal) = why_none_waits(state, session) else {
         return Ok(None);
-    }
+    };
+    // Whether it would wait is looked at last, since it is dear.
+    let waits = would_block(alloc, state, session, id, asked)?;
+    Ok(if waits { Some(refusal) } else { None })
+}
+
+/// Why no request of the session can wait now, if none can.
+fn why_none_waits(state: &Core, session: u64) -> Option<Refusal>
+    ensures { result ≡ first_that (waiting_limits state.now session) }
+{
     if waits_for_many(state, session) {
-        return Ok(Some(Refusal::TooManyWaiting));
+        return Some(Refusal::TooManyWaiting);
     }
     if is_used_up(state, 1) {
-        return Ok(Some(Refusal::UsedUp));
+        return Some(Refusal::UsedUp);
     }
-    Ok(None)
+    None
 }
 
 fn is_negative(asked: &RowsAsked) -> bool
@@ -82,7 +92,7 @@ fn is_negative(asked: &RowsAsked) -> bool
 }
 
 /// Whether the request would wait.
-pub(crate) fn would_block(
+fn would_block(
     alloc: Global,
     state: &Core,
     session: u64,
@@ -93,11 +103,33 @@ pub(crate) fn would_block(
     requires templates { AllFit state.now.classes asked.now.templates.now }
     ensures { IfOk result (λ b. b ≡ blocks state.now session id (rows_of asked.now)) }
 {
+    match to_wait(alloc, state, session, id, asked)? {
+        None => Ok(false),
+        Some(_) => Ok(true),
+    }
+}
+
+/// The request as it waits, if it would wait. One that doesn't want to takes no memory.
+fn to_wait(
+    alloc: Global,
+    state: &Core,
+    session: u64,
+    id: u64,
+    asked: &RowsAsked,
+) -> Result<Option<Blocked>, NoMemory>
+    requires time { state.now.time ≤ LAST_TIME }
+    requires templates { AllFit state.now.classes asked.now.templates.now }
+    ensures { IfOk result (λ o. o ≡ if_blocked state.now session id (rows_of asked.now)) }
+{
     if named(asked.timeout) == 0 {
-        return Ok(false);
+        return Ok(None);
     }
     let blocked = as_blocked(alloc, state, session, id, asked)?;
-    Ok(must_wait(state, &blocked))
+    if must_wait(state, &blocked) {
+        Ok(Some(blocked))
+    } else {
+        Ok(None)
+    }
 }
 
 /// Gives the request its rows, or lets it wait for some, whole or not at all. Its space joins its
@@ -113,16 +145,14 @@ pub fn accept_search(
     requires time { state.old.time ≤ LAST_TIME }
     requires numbers { state.old.next_number < 2 ^ 63 }
     requires rows { IsTrue (are_rising 0 state.old.next_number (map (λ r. r.number) state.old.rows)) }
-    requires transactions { IsTrue (are_rising 0 state.old.next_number (map (λ t. t.number) state.old.transactions)) }
     requires accepted { first_that (rows_tests state.old session id (rows_of asked.now)) ≡ None }
     requires one { takes asked.now.form ≡ false → length rows.now ≤ 1 }
     ensures ok { OnOk result (state.new ≡ give_or_block state.old session id (rows_of asked.now) rows.now) }
     ensures err { OnErr result (state.new ≡ state.old) }
 {
-    let blocked = as_blocked(alloc, state, session, id, asked)?;
-    let waits = 0 < named(asked.timeout) && must_wait(state, &blocked);
-    let joining = join(state, blocked.transaction, blocked.space)?;
-    match block_or_give(state, blocked, rows, waits) {
+    let waiting = to_wait(alloc, state, session, id, asked)?;
+    let joining = join(state, caller_of(asked.txn), place_of(state, asked.space))?;
+    match block_or_give(state, asked, waiting, rows) {
         Ok(()) => Ok(()),
         Err(e) => {
             leave(state, joining);
@@ -133,22 +163,23 @@ pub fn accept_search(
 
 fn block_or_give(
     state: &mut Core,
-    blocked: Blocked,
+    asked: &RowsAsked,
+    waiting: Option<Blocked>,
     rows: &[u64],
-    waits: bool,
 ) -> Result<(), NoMemory>
     requires numbers { state.old.next_number < 2 ^ 63 }
     requires rows { IsTrue (are_rising 0 state.old.next_number (map (λ r. r.number) state.old.rows)) }
-    requires one { takes blocked.form ≡ false → length rows.now ≤ 1 }
-    ensures ok { OnOk result (state.new ≡ (if waits then block state.old blocked else given state.old blocked rows.now)) }
+    requires one { takes asked.now.form ≡ false → length rows.now ≤ 1 }
+    ensures ok { OnOk result (state.new ≡ blocked_or_given asked.now.form asked.now.txn rows.now waiting state.old) }
     ensures err { OnErr result (state.new ≡ state.old) }
 {
-    if waits {
-        state.blocked.push(blocked)?;
-        state.next_number += 1;
-        Ok(())
-    } else {
-        give(state, blocked.form, blocked.transaction, rows)
+    match waiting {
+        Some(blocked) => {
+            state.blocked.push(blocked)?;
+            state.next_number += 1;
+            Ok(())
+        }
+        None => give(state, asked.form, caller_of(asked.txn), rows),
     }
 }
 

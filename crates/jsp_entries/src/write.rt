@@ -95,7 +95,6 @@ fn is_full(state: &Core, space: u64, count: usize) -> bool
 pub fn accept_write(alloc: Global, state: &mut Core, asked: &WriteAsked) -> Result<(), NoMemory>
     requires time { state.old.time ≤ LAST_TIME }
     requires numbers { state.old.next_number ≤ LAST_NUMBER + 1 }
-    requires transactions { IsTrue (are_rising 0 state.old.next_number (map (λ t. t.number) state.old.transactions)) }
     requires few { length asked.now.entries.now ≤ 64 }
     requires accepted { first_that (write_tests state.old (write_of asked.now)) ≡ None }
     ensures ok { OnOk result (state.new ≡ write state.old (write_of asked.now)) }

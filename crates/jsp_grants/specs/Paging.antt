@@ -1,5 +1,5 @@
 -- Match sets that are opened, and the pages that they show.
-use Rattle.std.specs.Prelude.{ℕ, ◌+◌, ◌==◌, [], ◌∷◌, ◌++◌, Option, unwrap_or}
+use Rattle.std.specs.Prelude.{ℕ, ◌+◌, ◌==◌, [], ◌∷◌, ◌++◌, Option}
 use Rattle.jsp_types.specs.Matching.{template_of}
 use Rattle.jsp_lease.specs.Granted.{ms_of}
 use Rattle.jsp_wire.specs.declared.ask.Contents.{Contents}
@@ -7,6 +7,7 @@ use Rattle.jsp_model.specs.declared.state.State.{State}
 use Rattle.jsp_model.specs.declared.state.MatchSet.{MatchSet}
 use Rattle.jsp_model.specs.Lookup.{update}
 use Rattle.jsp_model.specs.Requests.{caller_of, place_of}
+use Rattle.jsp_wait.specs.Sets.{to_cursor}
 
 -- the set that a request opens
 abbrev pub opened : State → ℕ → Contents → MatchSet
@@ -25,10 +26,6 @@ opened st s q =
 abbrev pub with_set : State → MatchSet → State
 with_set st m = record st { sets = st.sets ++ m ∷ []; next_number = st.next_number + 1 }
 
--- its cursor goes there, if it goes anywhere
-abbrev pub to_cursor : Option ℕ → MatchSet → MatchSet
-to_cursor last m = record m { cursor = unwrap_or last m.cursor }
-
--- that of the set of this number goes there
+-- the cursor of the set of this number goes there, if it goes anywhere
 abbrev pub with_cursor : State → ℕ → Option ℕ → State
 with_cursor st n last = record st { sets = update (λ m. m.number == n) (to_cursor last) st.sets }

@@ -9,7 +9,7 @@ ghost use Rattle.jsp_model.specs.Lookup.{update, set_of as set_numbered, named a
 ghost use Rattle.jsp_model.specs.Limits.{are_rising};
 ghost use Rattle.jsp_model.specs.Refusals.{own_tests, set_tests, own_set as own};
 ghost use Rattle.jsp_model.specs.Changes.{open_set, rest_of_set, page_of as page, is_last_page as is_last, turn_page as turned, close_set as closed};
-ghost use Rattle.jsp_grants.specs.Paging.{opened, with_set, to_cursor, with_cursor};
+ghost use Rattle.jsp_grants.specs.Paging.{opened, with_set, with_cursor};
 ghost use Rattle.jsp_model.specs.declared.limits.TheConstants.{LAST_NUMBER, LAST_TIME, MOST_SETS};
 
 use crate::granting::{LeaseAsked, refuse_grant};
@@ -39,7 +39,7 @@ pub fn refuse_contents(state: &Core, session: u64, id: u64, contents: &Contents)
 fn is_full(state: &Core) -> bool
     ensures { result ≡ nat_le MOST_SETS (length state.now.sets) }
 {
-    MOST_SETS <= state.sets.as_slice().len()
+    state.sets.has_at_least(MOST_SETS)
 }
 
 /// Opens a match set, whole or not at all. The space joins its transaction.
@@ -52,7 +52,6 @@ pub fn accept_contents(
 ) -> Result<(), NoMemory>
     requires time { state.old.time ≤ LAST_TIME }
     requires numbers { state.old.next_number ≤ LAST_NUMBER + 1 }
-    requires transactions { IsTrue (are_rising 0 state.old.next_number (map (λ t. t.number) state.old.transactions)) }
     requires accepted { first_that (own_tests state.old session id (ask.Contents contents.now)) ≡ None }
     ensures ok { OnOk result (state.new ≡ open_set state.old session contents.now) }
     ensures err { OnErr result (state.new ≡ state.old) }
@@ -115,26 +114,13 @@ fn own_set<'a>(state: &'a Core, session: u64, set: &i64) -> Option<&'a MatchSet>
     ensures { option_copied result ≡ own state.now session set.now }
 {
     let number = named(*set);
-    find_own(state.sets.as_slice(), session, number)
-}
-
-fn find_own(sets: &[MatchSet], session: u64, number: u64) -> Option<&MatchSet>
-    ensures { option_copied result ≡ find (λ m. m.number == number && m.session == session) sets.now }
-{
-    sets.iter()
-        .find(|m| m.number == number && m.session == session)
+    state.sets.get_own(session, number)
 }
 
 fn set_of(state: &Core, number: u64) -> Option<&MatchSet>
     ensures { option_copied result ≡ set_numbered state.now number }
 {
-    find_set(state.sets.as_slice(), number)
-}
-
-fn find_set(sets: &[MatchSet], number: u64) -> Option<&MatchSet>
-    ensures { option_copied result ≡ find (λ m. m.number == number) sets.now }
-{
-    sets.iter().find(|m| m.number == number)
+    state.sets.get(number)
 }
 
 /// The entries of the next page, at most so many, and whether none is left beyond it.
@@ -178,7 +164,6 @@ fn page_reply(
 
 /// The cursor of a set goes to the last row of its next page, if that has any.
 pub fn turn_page(state: &mut Core, set: &i64, most: &u64)
-    requires { IsTrue (are_rising 0 state.old.next_number (map (λ m. m.number) state.old.sets)) }
     ensures { state.new ≡ turned state.old (number_named set.now) most.now }
 {
     let number = number_of(set);
@@ -193,12 +178,10 @@ fn number_of(set: &i64) -> u64
 }
 
 fn turn_to(state: &mut Core, number: u64, last: Option<u64>)
-    requires { IsTrue (are_rising 0 state.old.next_number (map (λ m. m.number) state.old.sets)) }
     ensures { state.new ≡ with_cursor state.old number last }
 {
-    let below = state.next_number;
     let sets = &mut state.sets;
-    move_cursor(&mut sets.items, below, number, last);
+    sets.turn(number, last);
 }
 
 fn last_of_page(state: &Core, number: u64, most: u64) -> Option<u64>
@@ -208,29 +191,6 @@ fn last_of_page(state: &Core, number: u64, most: u64) -> Option<u64>
         None => None,
         Some(set) => state.rows.last_shown(&state.classes, set, most as usize),
     }
-}
-
-fn move_cursor(sets: &mut [MatchSet], below: u64, number: u64, last: Option<u64>)
-    requires { IsTrue (are_rising 0 below (map (λ m. m.number) sets.old)) }
-    ensures { sets.new ≡ update (λ m. m.number == number) (to_cursor last) sets.old }
-{
-    if let Some(place) = place_of_set(sets, number) {
-        set_cursor(&mut sets[place], last);
-    }
-}
-
-fn set_cursor(set: &mut MatchSet, last: Option<u64>)
-    ensures { set.new ≡ to_cursor last set.old }
-{
-    if let Some(number) = last {
-        set.cursor = number;
-    }
-}
-
-fn place_of_set(sets: &[MatchSet], number: u64) -> Option<usize>
-    ensures { result ≡ position (λ m. m.number == number) sets.now }
-{
-    sets.iter().position(|m| m.number == number)
 }
 
 /// Closes a match set.

@@ -37,7 +37,7 @@ pub fn refuse_notify(state: &Core, session: u64, id: u64, notify: &Notify) -> Op
 fn is_full(state: &Core) -> bool
     ensures { result ≡ nat_le MOST_REGISTRATIONS (length state.now.registrations) }
 {
-    MOST_REGISTRATIONS <= state.registrations.len()
+    state.registrations.has_at_least(MOST_REGISTRATIONS)
 }
 
 /// Registers the session for events, whole or not at all. The space joins its transaction.
@@ -50,7 +50,6 @@ pub fn accept_notify(
 ) -> Result<(), NoMemory>
     requires time { state.old.time ≤ LAST_TIME }
     requires numbers { state.old.next_number ≤ LAST_NUMBER + 1 }
-    requires transactions { IsTrue (are_rising 0 state.old.next_number (map (λ t. t.number) state.old.transactions)) }
     requires accepted { first_that (own_tests state.old session id (ask.Notify notify.now)) ≡ None }
     ensures ok { OnOk result (state.new ≡ register state.old session notify.now) }
     ensures err { OnErr result (state.new ≡ state.old) }
@@ -105,11 +104,9 @@ fn add(state: &mut Core, registration: Registration) -> Result<(), NoMemory>
 /// The next event of a registration is told: it is owed one less, and its sequence number rises by
 /// one.
 pub fn tell(state: &mut Core, number: u64)
-    requires rising { IsTrue (are_rising 0 state.old.next_number (map (λ r. r.number) state.old.registrations)) }
-    requires sequences { IsTrue (list_all (λ r. nat_le (r.sequence + 1) (2 ^ 63)) state.old.registrations) }
+    requires { IsTrue (list_all (λ r. nat_le (r.sequence + 1) (2 ^ 63)) state.old.registrations) }
     ensures { state.new ≡ told state.old number }
 {
-    let below = state.next_number;
     let registrations = &mut state.registrations;
-    registrations.tell(below, number);
+    registrations.tell(number);
 }

@@ -12,10 +12,10 @@ use Rattle.jsp_model.specs.Changes.{unread, committed, aborted, release, is_not_
 use Rattle.jsp_sight.specs.Rows.{settled, undone, with_reader, taken_row, row_ending, released_row}
 use Rattle.jsp_table.specs.Numbers.{names}
 use Rattle.jsp_table.proofs.Finding.{each}
-use Rattle.jsp_index.specs.Hinted.{Keeps}
+use Rattle.jsp_keyed.specs.Kept.{Keeps}
 use Rattle.jsp_index.specs.Holding.{IsHeld, AreHeld}
 use Rattle.jsp_index.specs.Changing.{revised_by, HasSameKeys}
-use Rattle.jsp_index.proofs.Named.{All-append}
+use Rattle.jsp_keyed.proofs.Named.{All-append}
 use Rattle.jsp_index.proofs.Covering.{eqb_eq, and_both}
 use Rattle.jsp_table.proofs.Rising.{or_cases}
 

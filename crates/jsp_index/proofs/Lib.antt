@@ -1,12 +1,7 @@
-pub mod Named
-pub mod Indexing
+pub mod Classes
 pub mod Covering
-pub mod Ending
-pub mod Coming
 pub mod Narrowing
 pub mod Walks
 pub mod Single
 pub mod Revisions
 pub mod Holders
-pub mod Joining
-pub mod Bounding

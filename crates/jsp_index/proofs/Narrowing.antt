@@ -1,9 +1,7 @@
--- Which rows a list of hints has to name.
-use Rattle.std.proofs.Common.{◌≡◌, ℕ, ◌+◌, ◌<◌, Bool, true, false, ◌&&◌, ◌||◌, eqb, nat_lt, List, [], ◌∷◌, ◌++◌, length, take, get_or, Some, None, refl, ap, sym, ◌∙◌, inl, inr, ◌⊎◌}
-use Rattle.std.specs.Prelude.{bytes_eq, nat_eq}
+-- Rows that are like a template, class by class, and those that are asked for, template by template.
+use Rattle.std.proofs.Common.{◌≡◌, ℕ, ◌+◌, ◌<◌, Bool, true, false, ◌&&◌, ◌||◌, eqb, List, [], ◌∷◌, ◌++◌, length, take, get_or, None, refl, ap, sym, ◌∙◌, arith, inl, inr, ◌⊎◌}
+use Rattle.std.specs.Prelude.{bytes_eq, ◌==◌}
 use Rattle.std.specs.List.{list_any}
-use Rattle.std.specs.Option.{option_map_or}
-use Rattle.std.specs.HashMap.{HashMap, get}
 use Rattle.std.proofs.lemmas.List.{take_more}
 use Rattle.std.proofs.lemmas.Slice.Eq.{bytes_eq-Decides}
 use Rattle.jsp_types.specs.declared.class.Class.{Class}
@@ -13,38 +11,18 @@ use Rattle.jsp_types.specs.declared.entry.Template.TheVariants.{Like}
 use Rattle.jsp_types.specs.Classes.{is_sub}
 use Rattle.jsp_types.specs.Matching.{matches}
 use Rattle.jsp_model.specs.declared.state.Row.{Row}
-use Rattle.jsp_table.specs.Numbers.{contains, names}
-use Rattle.jsp_table.specs.Finding.{is_hit}
+use Rattle.jsp_table.specs.Numbers.{contains}
+use Rattle.jsp_table.specs.Finding.{AreNamed}
+use Rattle.jsp_table.proofs.Finding.{each}
 use Rattle.jsp_table.proofs.Rising.{or_cases}
 use Rattle.jsp_keyed.specs.Keys.{class_key}
-use Rattle.jsp_index.specs.Hinted.{IsHinted, IsKeyFor, IsAmong}
-use Rattle.jsp_index.specs.Finding.{is_next, is_asked, is_like}
-use Rattle.jsp_index.proofs.Covering.{and_both, eqb_eq}
+use Rattle.jsp_index.specs.Keys.{row_keys}
+use Rattle.jsp_index.specs.Seen.{IsAmong}
+use Rattle.jsp_index.specs.Finding.{number, is_asked, is_like, IsLeast}
+use Rattle.jsp_index.proofs.Covering.{and_both, eqb_eq, class_has}
 
 pub and_true : (a b : Bool) → a ≡ true → b ≡ true → (a && b) ≡ true
 and_true a b h k = rw (h, k) refl
-
-module _ (passed : Row → Bool) (numbers : List ℕ) (after : ℕ) where
-  pub hit_passes : (r : Row) → is_hit (λ (r : Row). r.number) passed numbers after r ≡ true → is_next passed after r ≡ true
-  hit_passes r h =
-      let one = and_both (nat_lt after r.number) (contains numbers r.number && passed r) h in
-      let two = and_both (contains numbers r.number) (passed r) one.1 in
-      and_true (nat_lt after r.number) (passed r) one.0 two.1
-
-  pub named_hits : {S : Type 0} (hints : HashMap ℕ (List ℕ) S) (key : ℕ) → get nat_eq hints key ≡ Some numbers → (r : Row) → is_next passed after r ≡ true → names hints key r.number ≡ true → is_hit (λ (r : Row). r.number) passed numbers after r ≡ true
-  named_hits hints key there r h named =
-      let one = and_both (nat_lt after r.number) (passed r) h in
-      let has : contains numbers r.number ≡ true = sym (ap (λ o. option_map_or (λ ns. contains ns r.number) o false) there) ∙ named in
-      and_true (nat_lt after r.number) (contains numbers r.number && passed r) one.0 (and_true (contains numbers r.number) (passed r) has one.1)
-
-pub not_named : {S : Type 0} (hints : HashMap ℕ (List ℕ) S) (key n : ℕ) → get nat_eq hints key ≡ None → names hints key n ≡ false
-not_named hints key n none = ap (λ o. option_map_or (λ ns. contains ns n) o false) none
-
-module _ {S : Type 0} (seed : ℕ) (hints : HashMap ℕ (List ℕ) S) (space : ℕ) where
-  pub like_named : (classes : List Class) (template : Template) (key : ℕ) → IsKeyFor seed hints classes template space key → (r : Row) → IsHinted seed hints r → is_like classes space template r ≡ true → names hints key r.number ≡ true
-  like_named classes template key covers r h k =
-      let two = and_both (eqb r.space space) (matches classes template r.entry) k in
-      covers r h (eqb_eq r.space space two.0) two.1
 
 -- ---- class by class
 
@@ -70,12 +48,11 @@ abbrev pub is_like_and : List Class → ℕ → Entry → List ℕ → Row → B
 is_like_and classes space like class r = is_like classes space (Like like) r && bytes_eq class r.entry.class
 
 module _ (classes : List Class) (space : ℕ) (like : Entry) (class : List ℕ) where
-  pub class_named : {S : Type 0} (seed : ℕ) (hints : HashMap ℕ (List ℕ) S) (r : Row) → IsHinted seed hints r → is_like_and classes space like class r ≡ true → names hints (class_key seed space class) r.number ≡ true
-  class_named seed hints r h k =
+  pub class_kept : (seed : ℕ) (r : Row) → is_like_and classes space like class r ≡ true → contains (row_keys seed r) (class_key seed space class) ≡ true
+  class_kept seed r k =
       let two = and_both (is_like classes space (Like like) r) (bytes_eq class r.entry.class) k in
       let at : r.space ≡ space = eqb_eq r.space space (and_both (eqb r.space space) (matches classes (Like like) r.entry) two.0).0 in
-      let same : class ≡ r.entry.class = (bytes_eq-Decides class r.entry.class).0 two.1 in
-      rw (← at, same) h.by_class
+      class_has seed space class r at ((bytes_eq-Decides class r.entry.class).0 two.1)
 
   pub class_apart : is_sub classes class like.class ≡ false → (r : Row) → is_like_and classes space like class r ≡ false
   class_apart none r = at (is_like_and classes space like class r) refl where
@@ -96,12 +73,6 @@ module _ (classes : List Class) (space : ℕ) (like : Entry) (class : List ℕ) 
         | inr e ↦ inr (and_true (is_like classes space (Like like) r) (bytes_eq class r.entry.class) two.0 e)
       ]
 
-pub of_none : (classes : List Class) (space : ℕ) (like : Entry) (seen : List (List ℕ)) (r : Row) → is_like_of classes space like (take 0 seen) r ≡ false
-of_none classes space like seen r = none (is_like classes space (Like like) r) where
-  none : (b : Bool) → (b && false) ≡ false
-  none true = refl
-  none false = refl
-
 pub of_seen : (classes : List Class) (space : ℕ) (like : Entry) (seen : List (List ℕ)) (r : Row) → IsAmong seen r.entry.class → is_like classes space (Like like) r ≡ true → is_like_of classes space like seen r ≡ true
 of_seen classes space like seen r among h = and_true (is_like classes space (Like like) r) (list_any (λ c. bytes_eq c r.entry.class) seen) h among
 
@@ -116,8 +87,13 @@ asked_more classes space templates i template lt is r h =
       | inr e ↦ inr (and_true (eqb r.space space) (matches classes template r.entry) two.0 e)
     ]
 
-pub asked_none : (classes : List Class) (space : ℕ) (templates : List Template) (r : Row) → is_asked classes space (take 0 templates) r ≡ false
-asked_none classes space templates r = none (eqb r.space space) where
-  none : (b : Bool) → (b && false) ≡ false
-  none true = refl
-  none false = refl
+-- ---- of a kind of which no row is named
+
+pub least_unnamed : (p kind : Row → Bool) (ns : List ℕ) (rows : List Row) → (length ns == 0) ≡ true → AreNamed number kind ns rows → IsLeast p kind rows None
+least_unnamed p kind ns rows empty named = record {
+  one = tt;
+  least = each (λ r. kind r ≡ true → contains ns r.number ≡ true) (λ r. p r ≡ true → kind r ≡ true → ⊥) rows named (λ r f h k. nothing ns r.number empty (f k));
+} where
+  nothing : (ns : List ℕ) (n : ℕ) → (length ns == 0) ≡ true → contains ns n ≡ true → ⊥
+  nothing [] n e h = absurd (cc)
+  nothing (m ∷ ns) n e h = absurd (omega (arith, eqb_eq (length (m ∷ ns)) 0 e))

@@ -1,32 +1,24 @@
 -- Of rising numbers each stands once.
-use Rattle.std.proofs.Common.{◌≡◌, ◌≢◌, ℕ, suc, ◌<◌, Bool, true, false, cond, ◌&&◌, ◌||◌, eqb, nat_lt, List, [], ◌∷◌, length, map, Some, None, refl, ap, sym, ◌∙◌, subst, arith, inl, inr}
-use Rattle.std.specs.Prelude.{find, filter, slice_get, ◌==◌, option_map}
+use Rattle.std.proofs.Common.{◌≡◌, ◌≢◌, ℕ, suc, ◌<◌, Bool, true, false, cond, ◌&&◌, ◌||◌, eqb, List, [], ◌∷◌, length, map, Some, None, refl, ap, sym, ◌∙◌, subst, arith}
+use Rattle.std.specs.Prelude.{find, filter, slice_get, ◌==◌, option_map, is_some, is_none}
 use Rattle.std.specs.List.{AllByRecursion, list_any}
-use Rattle.std.proofs.lemmas.Bool.{cases_eq, eq-eqb, ne_eqb}
+use Rattle.std.proofs.lemmas.Bool.{ne_eqb}
 use Rattle.std.proofs.lemmas.Bool.Decides.{nat_tests}
 use Rattle.jsp_model.specs.declared.state.Row.{Row}
 use Rattle.jsp_model.specs.Lookup.{contains}
 use Rattle.jsp_table.specs.Finding.{AreNumbered as AreRising}
-use Rattle.jsp_table.proofs.Finding.{each}
-use Rattle.jsp_index.specs.Finding.{row_numbered, is_next}
+use Rattle.jsp_index.specs.Finding.{row_numbered}
 use Rattle.jsp_index.proofs.Covering.{eqb_eq}
 
 some_same : {a b : Row} → Some a ≡ Some b → a ≡ b
 some_same e = cc
 
-pub none_any : (q : Row → Bool) (rows : List Row) → find q rows ≡ None → list_any q rows ≡ false
-none_any q [] h = refl
-none_any q (x ∷ rows) h = at (q x) refl (none_any q rows) where
-  at : (b : Bool) → q x ≡ b → (find q rows ≡ None → list_any q rows ≡ false) → list_any q (x ∷ rows) ≡ false
-  at true e rest = absurd (cc (h, ap (λ b. cond b (Some x) (find q rows)) e))
-  at false e rest = rw e (rest (ap (λ b. cond b (Some x) (find q rows)) (sym e) ∙ h))
-
-pub some_any : (q : Row → Bool) (rows : List Row) (r : Row) → find q rows ≡ Some r → list_any q rows ≡ true
-some_any q [] r h = absurd (cc)
-some_any q (x ∷ rows) r h = at (q x) refl (some_any q rows r) where
-  at : (b : Bool) → q x ≡ b → (find q rows ≡ Some r → list_any q rows ≡ true) → list_any q (x ∷ rows) ≡ true
-  at true e rest = rw e refl
-  at false e rest = rw e (rest (ap (λ b. cond b (Some x) (find q rows)) (sym e) ∙ h))
+pub any_found : (q : Row → Bool) (rows : List Row) → is_some (find q rows) ≡ list_any q rows
+any_found q [] = refl
+any_found q (x ∷ rows) = at (q x) (any_found q rows) where
+  at : (b : Bool) → is_some (find q rows) ≡ list_any q rows → is_some (cond b (Some x) (find q rows)) ≡ (b || list_any q rows)
+  at true rest = refl
+  at false rest = rest
 
 pub no_one : (n : ℕ) (p : Row → Bool) (rows : List Row) → row_numbered n rows ≡ None → list_any (λ (r : Row). r.number == n && p r) rows ≡ false
 no_one n p [] h = refl
@@ -80,13 +72,9 @@ pub first_is : {X Y : Type 0} (f : X → Y) (p : X → Bool) (xs : List X) → o
 first_is f p [] = refl
 first_is f p (x ∷ xs) = first_at f p x xs (p x) refl (first_is f p xs)
 
-pub none_first : {Y : Type 0} (ys : List Y) → slice_get ys 0 ≡ None → true ≡ (length ys == 0)
-none_first [] h = refl
-none_first (y ∷ ys) h = absurd (cc)
-
-pub some_first : {Y : Type 0} (ys : List Y) (y : Y) → slice_get ys 0 ≡ Some y → false ≡ (length ys == 0)
-some_first [] y h = absurd (cc)
-some_first (z ∷ ys) y h = not_none (length ys) where
+pub none_first : {Y : Type 0} (ys : List Y) → is_none (slice_get ys 0) ≡ (length ys == 0)
+none_first [] = refl
+none_first (y ∷ ys) = not_none (length ys) where
   not_none : (n : ℕ) → false ≡ eqb (suc n) 0
   not_none n = grind (arith, nat_tests)
 

@@ -1,14 +1,12 @@
 -- The rows that pass, one after the other.
-use Rattle.std.proofs.Common.{◌≡◌, ℕ, zero, suc, ◌+◌, ◌<◌, ◌≤◌, Bool, true, false, cond, ◌&&◌, nat_lt, List, [], ◌∷◌, ◌++◌, length, take, drop, map, Option, Some, None, refl, ap, sym, ◌∙◌, subst, arith, length-append, append_assoc}
+use Rattle.std.proofs.Common.{◌≡◌, ℕ, zero, suc, ◌+◌, ◌<◌, ◌≤◌, Bool, true, false, cond, ◌&&◌, ◌||◌, nat_lt, List, [], ◌∷◌, ◌++◌, length, take, drop, map, Option, Some, None, refl, ap, sym, ◌∙◌, subst, arith, length-append}
 use Rattle.std.specs.Prelude.{find, filter}
 use Rattle.std.specs.List.{AllByRecursion, last_or, list_any}
-use Rattle.std.proofs.lemmas.List.{map-append, append-nil}
+use Rattle.std.proofs.lemmas.List.{map-append}
 use Rattle.std.proofs.lemmas.Bool.Decides.{nat_tests}
 use Rattle.jsp_model.specs.declared.state.Row.{Row}
 use Rattle.jsp_table.specs.Finding.{AreNumbered as AreRising}
-use Rattle.jsp_table.proofs.Finding.{each}
 use Rattle.jsp_index.specs.Finding.{number, is_next}
-use Rattle.jsp_index.proofs.Covering.{and_both}
 use Rattle.jsp_keyed.proofs.Walking.{none_passes, one_passes, same_filter}
 
 some_same : {a b : Row} → Some a ≡ Some b → a ≡ b
@@ -111,9 +109,17 @@ any_empty p (r ∷ rows) h = at (p r) refl (any_empty p rows) where
   at true e rest = absurd (cc (h, ap (λ b. cond b (r ∷ filter p rows) (filter p rows)) e))
   at false e rest = rw e (rest (ap (λ b. cond b (r ∷ filter p rows) (filter p rows)) (sym e) ∙ h))
 
-pub any_filled : (p : Row → Bool) (rows rest : List Row) (x : Row) → filter p rows ≡ x ∷ rest → list_any p rows ≡ true
-any_filled p [] rest x h = absurd (cc)
-any_filled p (r ∷ rows) rest x h = at (p r) refl (any_filled p rows rest x) where
-  at : (b : Bool) → p r ≡ b → (filter p rows ≡ x ∷ rest → list_any p rows ≡ true) → list_any p (r ∷ rows) ≡ true
-  at true e go = rw e refl
-  at false e go = rw e (go (ap (λ b. cond b (r ∷ filter p rows) (filter p rows)) (sym e) ∙ h))
+-- whether one passes is seen from those that do
+abbrev is_filled : List Row → Bool
+is_filled [] = false
+is_filled (r ∷ rows) = true
+
+any_filled : (p : Row → Bool) (rows : List Row) → list_any p rows ≡ is_filled (filter p rows)
+any_filled p [] = refl
+any_filled p (r ∷ rows) = at (p r) (any_filled p rows) where
+  at : (b : Bool) → list_any p rows ≡ is_filled (filter p rows) → (b || list_any p rows) ≡ is_filled (cond b (r ∷ filter p rows) (filter p rows))
+  at true rest = refl
+  at false rest = rest
+
+pub any_same : (p q : Row → Bool) (rows : List Row) → filter p rows ≡ filter q rows → list_any p rows ≡ list_any q rows
+any_same p q rows e = any_filled p rows ∙ (ap is_filled e ∙ sym (any_filled q rows))

@@ -1,4 +1,5 @@
-pub mod Hinted
+pub mod Keys
+pub mod Seen
 pub mod Numbered
 pub mod Finding
 pub mod Holding

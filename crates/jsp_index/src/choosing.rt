@@ -1,54 +1,36 @@
 //! The list of hints that a template is looked for in.
-ghost use Rattle.std.specs.Prelude.{◌≡◌, ◌≤◌, ◌⊎◌, Bool, true, List, length, filter, IfSome, Some};
-ghost use Rattle.std.specs.List.{AllByRecursion};
+ghost use Rattle.std.specs.Prelude.{◌≡◌, ◌⊎◌, List, Some, option_copied, IfSome};
 ghost use Rattle.jsp_types.specs.declared.class.Class.{Class as OfClass};
 ghost use Rattle.jsp_types.specs.declared.entry.Template.TheVariants.{Like};
-ghost use Rattle.jsp_model.specs.declared.state.Row.{Row as OfRow};
-ghost use Rattle.jsp_table.specs.Numbers.{names};
-ghost use Rattle.jsp_table.specs.Finding.{AreNumbered as AreRising};
-ghost use Rattle.jsp_index.specs.Hinted.{IsKeyFor};
+ghost use Rattle.jsp_table.specs.Finding.{AreNamed};
+ghost use Rattle.jsp_index.specs.Finding.{number, is_like};
 
-use jsp_keyed::key_of_field;
-use jsp_table::Hints;
+use crate::by_number::Rows;
+use crate::seeking::OfField;
+use jsp_table::Numbers;
 use jsp_types::Entry;
 
-/// How many rows are named under a key: no fewer than there are of a kind of which all are named there.
-pub(crate) fn count(hints: &Hints, key: u64) -> usize
-    ensures { (kind : OfRow → Bool) (rows : List OfRow) → AreRising (λ (r : OfRow). r.number) rows → AllByRecursion (λ r. kind r ≡ true → names hints.now key r.number ≡ true) rows → length (filter kind rows) ≤ result }
+/// The shortest list of the rows that have a field's value of a template, if a field isn't null. All rows
+/// that the template matches are named there.
+pub(crate) fn shortest_list<'a>(rows: &'a Rows, like: &Entry, space: u64) -> Option<&'a Numbers>
+    ensures { IfSome (option_copied result) (λ numbers. (classes : List OfClass) → AreNamed number (is_like classes space (Like like.now)) numbers rows.now) }
 {
-    match hints.get(&key) {
-        None => 0,
-        Some(numbers) => numbers.len(),
-    }
-}
-
-/// The key of the field of a template under which the fewest rows are named, if a field isn't null.
-/// All rows that the template matches are named there.
-pub(crate) fn rarest_key(hints: &Hints, seed: u64, like: &Entry, space: u64) -> Option<u64>
-    ensures { IfSome result (λ key. (classes : List OfClass) → IsKeyFor seed hints.now classes (Like like.now) space key) }
-{
-    let mut rarest = None;
+    let mut shortest = None;
     'fields: for field in like.fields.as_slice() {
         if !field.1.is_null() {
-            let key = key_of_field(seed, space, field.0.as_str(), &field.1);
-            rarest = rarer(hints, rarest, key);
+            let numbers = rows.numbers_under(&OfField { space, field });
+            shortest = Some(shorter(shortest, numbers));
         }
     }
-    rarest
+    shortest
 }
 
-/// The key under which fewer rows are named.
-fn rarer(hints: &Hints, other: Option<u64>, key: u64) -> Option<u64>
-    ensures { result ≡ other ⊎ result ≡ Some key }
+/// The list with fewer numbers.
+fn shorter<'a>(other: Option<&'a Numbers>, numbers: &'a Numbers) -> &'a Numbers
+    ensures { (option_copied other.entry ≡ Some result.now) ⊎ (result.now ≡ numbers.now) }
 {
     match other {
-        None => Some(key),
-        Some(other) => {
-            if count(hints, other) <= count(hints, key) {
-                Some(other)
-            } else {
-                Some(key)
-            }
-        }
+        Some(other) if other.len() <= numbers.len() => other,
+        _ => numbers,
     }
 }

@@ -9,9 +9,9 @@ ghost use Rattle.jsp_model.specs.Changes.{published};
 ghost use Rattle.jsp_table.specs.Numbers.{contains};
 ghost use Rattle.jsp_sight.specs.Rows.{offered_among, held, shows, row_end, entries_among};
 
-use crate::asking::{ChangedBy, InConflict, Offered, OneOf, PublishedBy, Shown};
-use crate::listing::{copies_of, entries_named, rows_named};
-use crate::walking::{Sought, count_found, entries_found, last_found, numbers_found};
+use crate::asking::{ChangedBy, InConflict, InSpace, Offered, OneOf, PublishedBy, Shown};
+use crate::listing::{entries_named, rows_named};
+use crate::walking::{Sought, entries_found, numbers_found, walk};
 use crate::{HintedRows, NoMemory};
 use jsp_model::{Blocked, Item, MatchSet, Row};
 use jsp_sight::is_available;
@@ -24,14 +24,14 @@ impl HintedRows {
     pub fn count_in(&self, space: u64) -> usize
         ensures { result ≡ length (filter (λ r. r.space == space) self.now) }
     {
-        self.rows.count_in(space)
+        self.rows.keyed().count(&InSpace { space })
     }
 
     /// No fewer than the rows that a space has, found without looking at any.
     pub fn at_most_in(&self, space: u64) -> usize
         ensures { length (filter (λ r. r.space == space) self.now) ≤ result }
     {
-        self.rows.at_most_in(space)
+        self.rows.keyed().count_under(&InSpace { space })
     }
 
     /// The row of this number.
@@ -45,17 +45,14 @@ impl HintedRows {
     pub fn has(&self, number: u64) -> bool
         ensures { result ≡ list_any (λ r. r.number == number) self.now }
     {
-        match self.rows.get(number) {
-            None => false,
-            Some(_) => true,
-        }
+        self.rows.get(number).is_some()
     }
 
     /// The row whose end has come and comes first, as an item.
     pub fn due(&self, time: u64) -> Option<Item>
         ensures { result ≡ first_item (over_by time (map row_end self.now)) }
     {
-        self.rows.due(time)
+        self.rows.keyed().due(time)
     }
 
     /// Whether a row of this number passes a test of the caller's.
@@ -87,23 +84,17 @@ impl HintedRows {
     {
         let templates = blocked.templates.as_slice();
         let test = Offered { classes, blocked };
-        match self
+        let row = self
             .rows
-            .first_above(classes, blocked.space, templates, 0, &test)
-        {
-            None => None,
-            Some(row) => Some(row.number),
-        }
+            .first_above(classes, blocked.space, templates, 0, &test)?;
+        Some(row.number)
     }
 
     /// Whether there is none.
     pub fn has_none(&self, classes: &Classes, blocked: &Blocked) -> bool
         ensures { result ≡ (length (offered_among classes.now blocked.now self.now) == 0) }
     {
-        match self.first_available(classes, blocked) {
-            None => true,
-            Some(_) => false,
-        }
+        self.first_available(classes, blocked).is_none()
     }
 
     /// Whether a row that the request wants is in conflict.
@@ -112,13 +103,9 @@ impl HintedRows {
     {
         let templates = blocked.templates.as_slice();
         let test = InConflict { classes, blocked };
-        match self
-            .rows
+        self.rows
             .first_above(classes, blocked.space, templates, 0, &test)
-        {
-            None => false,
-            Some(_) => true,
-        }
+            .is_some()
     }
 
     /// The numbers of the first rows that the request may be given, as many as it asks for.
@@ -151,7 +138,7 @@ impl HintedRows {
             templates: blocked.templates.as_slice(),
         };
         let test = Offered { classes, blocked };
-        count_found(&self.rows, &sought, 0, &test, most)
+        walk(&self.rows, &sought, 0, &test, most).count
     }
 
     /// Whether the row of this number may be given to the request.
@@ -194,7 +181,7 @@ impl HintedRows {
             templates: std::slice::from_ref(&set.template),
         };
         let test = Shown { classes, set };
-        count_found(&self.rows, &sought, set.cursor, &test, most)
+        walk(&self.rows, &sought, set.cursor, &test, most).count
     }
 
     /// The number of the last of the first rows that a match set may still show.
@@ -207,28 +194,24 @@ impl HintedRows {
             templates: std::slice::from_ref(&set.template),
         };
         let test = Shown { classes, set };
-        last_found(&self.rows, &sought, set.cursor, &test, most)
+        walk(&self.rows, &sought, set.cursor, &test, most).last
     }
 
     /// Whether the transaction wrote or took a row there.
     pub fn has_changed(&self, x: u64, space: u64) -> bool
         ensures { result ≡ list_any (λ r. r.space == space && (calls r.writer x || calls r.taker x)) self.now }
     {
-        let _ = self.rows.places();
+        let rows = self.rows.keyed();
+        // Which says that no number is 0.
+        let _ = rows.places();
         let Some(numbers) = self.holders.get(&x) else {
             return false;
         };
-        match self.rows.first_named(
-            numbers,
-            0,
-            &ChangedBy {
-                transaction: x,
-                space,
-            },
-        ) {
-            None => false,
-            Some(_) => true,
-        }
+        let test = ChangedBy {
+            transaction: x,
+            space,
+        };
+        rows.first_named(numbers, 0, &test).is_some()
     }
 
     /// Numbers among which are those of all rows that the transaction wrote, took or read.
@@ -249,7 +232,12 @@ impl HintedRows {
         let Some(numbers) = self.holders.get(&x) else {
             return Ok(Vec::new(alloc));
         };
-        let copies = rows_named(alloc, &self.rows, numbers, &PublishedBy { transaction: x })?;
+        let copies = rows_named(
+            alloc,
+            self.rows.keyed(),
+            numbers,
+            &PublishedBy { transaction: x },
+        )?;
         Ok(copies)
     }
 
@@ -258,7 +246,7 @@ impl HintedRows {
         ensures { IfOk result (λ es. es ≡ entries_among numbers.now self.now) }
     {
         let named = named_by(alloc, numbers)?;
-        let entries = entries_named(alloc, &self.rows, &named, &OneOf { numbers })?;
+        let entries = entries_named(alloc, self.rows.keyed(), &named, &OneOf { numbers })?;
         Ok(entries)
     }
 
@@ -266,8 +254,7 @@ impl HintedRows {
     pub fn to_items(&self, alloc: Global) -> Result<Items<Row>, NoMemory>
         ensures { IfOk result (λ rows. rows ≡ self.now) }
     {
-        let copies = copies_of(alloc, self.rows.places())?;
-        Ok(Items::from_vec(copies))
+        self.rows.keyed().to_items(alloc)
     }
 }
 

@@ -4,6 +4,7 @@
 //! The fields are private. What there is to do with rows is a call: to append, to leave some out, to
 //! change some in place are here. Only appending, reading and taking takes memory.
 ghost use Rattle.std.specs.Prelude.{◌≡◌, ◌==◌, ◌++◌, ◌∷◌, [], not, map, filter, OnOk, OnErr};
+ghost use Rattle.std.specs.Bool.{OnTrue};
 ghost use Rattle.jsp_model.specs.Lookup.{update, contains as has};
 ghost use Rattle.jsp_model.specs.Changes.{aborted, committed, release as released};
 ghost use Rattle.jsp_sight.specs.Rows.{row_ending, with_reader, taken_row};
@@ -13,7 +14,7 @@ use crate::NoMemory;
 use crate::changing::{Abort, Commit, Reading, Release, Taking};
 use crate::holding::{hold_all, hold_numbers};
 use crate::keyed::KeyedRows;
-use crate::revising::{clear_space, remove_all, revise_all, take_all};
+use crate::revising::{remove_all, revise_all, take_all};
 use jsp_model::{Row, Vote};
 use jsp_table::{Hints, add_hint};
 use std::alloc::Global;
@@ -54,6 +55,14 @@ impl HintedRows {
     }
 
     // ---- append
+
+    /// Whether the numbers of these rows rise, above those of all rows and above 0. Where one isn't
+    /// above a number that is gone, it may be refused.
+    pub fn is_above(&self, rows: &[Row]) -> bool
+        ensures { OnTrue result (AreNumbered (self.now ++ rows.now)) }
+    {
+        self.rows.keyed().may_append(rows)
+    }
 
     /// Adds rows at the end, whole or not at all. Where memory is refused they stay with the caller.
     pub fn append(&mut self, rows: &mut Vec<Row>) -> Result<(), NoMemory>
@@ -99,7 +108,7 @@ impl HintedRows {
     pub fn clear(&mut self, space: u64)
         ensures { self.new ≡ filter (λ r. not (r.space == space)) self.old }
     {
-        clear_space(&mut self.rows, space);
+        self.rows.clear(space);
     }
 
     // ---- leave out and change. Nothing here takes memory.

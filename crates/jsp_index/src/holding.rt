@@ -2,7 +2,7 @@
 ghost use Rattle.std.specs.Prelude.{◌≡◌, ℕ, true, OnOk};
 ghost use Rattle.jsp_model.specs.Lookup.{contains as has, is_caller as calls};
 ghost use Rattle.jsp_table.specs.Numbers.{names};
-ghost use Rattle.jsp_index.specs.Hinted.{Keeps};
+ghost use Rattle.jsp_keyed.specs.Kept.{Keeps};
 ghost use Rattle.jsp_index.specs.Holding.{IsHeld, AreHeld};
 
 use crate::NoMemory;

@@ -1,8 +1,8 @@
 //! The rows of all spaces, found by lists that hint at where they are.
 //!
 //! [`HintedRows`] has the calls of a plain list of rows, and contracts see it as that list, in rising
-//! order of the rows' numbers. Under it are a table by number, lists of numbers by space, by class
-//! and by each value of a field, lists by transaction, and the ends of the rows as leases.
+//! order of the rows' numbers. Under it are rows by number, by end, and by keys of their own (their
+//! space, their class there, and each value of a field), and lists of numbers by transaction.
 //!
 //! A list of hints names at least each row that carries its key, and may name others, so it never
 //! decides: each row that is named gets the full test, and what is found first is the first of all
@@ -11,18 +11,18 @@
 #![tactic(auto)]
 
 mod asking;
+mod by_number;
 mod changing;
 mod choosing;
-mod ends;
 mod finding;
 mod hinted;
 mod holding;
 mod keyed;
 mod listing;
-mod naming;
 mod revising;
-mod rising;
 mod searching;
+mod seeing;
+mod seeking;
 mod walking;
 
 pub use hinted::HintedRows;

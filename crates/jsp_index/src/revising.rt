@@ -7,7 +7,6 @@ ghost use Rattle.jsp_sight.specs.Rows.{taken_row};
 ghost use Rattle.jsp_table.specs.Numbers.{contains};
 ghost use Rattle.jsp_index.specs.Changing.{HasSameKeys, revised_by};
 
-use crate::asking::InSpace;
 use crate::changing::{Revision, Taking};
 use crate::keyed::KeyedRows;
 use jsp_model::Row;
@@ -59,14 +58,5 @@ pub(crate) fn take_all(rows: &mut KeyedRows, numbers: &[u64], x: u64)
 {
     'numbers: for number in numbers {
         rows.change(*number, &Taking { transaction: x });
-    }
-}
-
-/// The rows of a space go.
-pub(crate) fn clear_space(rows: &mut KeyedRows, space: u64)
-    ensures { rows.new ≡ filter (λ r. not (r.space == space)) rows.old }
-{
-    'rows: while let Some(number) = rows.first_in(space) {
-        rows.remove(number);
     }
 }

@@ -1,33 +1,21 @@
 //! The first row that passes a test, among the lists of hints. Nothing here takes memory.
-ghost use Rattle.std.specs.Prelude.{◌≡◌, ◌==◌, ◌&&◌, true, bytes_eq, find, option_map, option_copied};
+ghost use Rattle.std.specs.Prelude.{◌≡◌, ◌&&◌, true, bytes_eq, find, option_copied};
 ghost use Rattle.jsp_model.specs.declared.state.Row.{Row as OfRow};
 ghost use Rattle.jsp_types.specs.declared.entry.Template.TheVariants.{Like};
-ghost use Rattle.jsp_table.specs.Numbers.{names};
 ghost use Rattle.jsp_index.specs.Finding.{is_next, is_asked, is_like, IsLeast};
 ghost use Rattle.jsp_index.specs.Numbered.{AreNumbered};
 
 use crate::asking::InSpace;
-use crate::choosing::rarest_key;
-use crate::keyed::{ByNumber, KeyedRows};
-use jsp_keyed::{first_under, key_of_class, key_of_space, lesser};
+use crate::by_number::ByNumber;
+use crate::choosing::shortest_list;
+use crate::keyed::KeyedRows;
+use crate::seeking::OfClass;
+use jsp_keyed::lesser;
 use jsp_model::Row;
 use jsp_table::Test;
 use jsp_types::{Classes, Entry, Template};
 
 impl KeyedRows {
-    /// The number of the first row of a space.
-    pub(crate) fn first_in(&self, space: u64) -> Option<u64>
-        ensures found { result ≡ option_map (λ r. r.number) (find (λ r. r.space == space) self.now) }
-        ensures numbered { AreNumbered self.now }
-    {
-        let _ = self.places();
-        let key = key_of_space(self.seed, space);
-        match first_under(&self.table, &self.hints, key, 0, &InSpace { space }) {
-            None => None,
-            Some(row) => Some(row.number),
-        }
-    }
-
     /// The first row above a number, of the space and of the class, that passes the test and is like
     /// the template. The list is looked up first, since to compare the class with the template's takes
     /// longer, and most classes may have no rows in the space.
@@ -42,12 +30,12 @@ impl KeyedRows {
     ) -> Option<&Row>
         ensures { IsLeast (is_next (P.is_passed test.now) after) (λ r. is_like classes.now space (Like like.now) r && bytes_eq class.now r.entry.class) self.now (option_copied result) }
     {
-        let key = key_of_class(self.seed, space, class);
-        let Some(numbers) = self.hints.get(&key) else {
+        let numbers = self.rows.numbers_under(&OfClass { space, class });
+        if numbers.is_empty() {
             return None;
-        };
+        }
         if classes.is_sub(class, like.class.as_str()) {
-            self.table.first_above(numbers, after, test)
+            self.rows.first_named(numbers, after, test)
         } else {
             None
         }
@@ -90,12 +78,12 @@ impl KeyedRows {
     {
         match template {
             Template::Any => {
-                let key = key_of_space(self.seed, space);
-                first_under(&self.table, &self.hints, key, after, test)
+                let numbers = self.rows.numbers_under(&InSpace { space });
+                self.rows.first_named(numbers, after, test)
             }
-            Template::Like(like) => match rarest_key(&self.hints, self.seed, like, space) {
+            Template::Like(like) => match shortest_list(&self.rows, like, space) {
                 None => self.first_of_classes(classes, space, like, after, test),
-                Some(key) => first_under(&self.table, &self.hints, key, after, test),
+                Some(numbers) => self.rows.first_named(numbers, after, test),
             },
         }
     }

@@ -82,52 +82,36 @@ pub(crate) fn add_entry(entries: &mut Items<Entry>, row: &Row) -> Result<(), NoM
     Ok(())
 }
 
-/// How many rows above a number pass, up to so many.
-pub(crate) fn count_found<P: Test<Row>>(
-    rows: &KeyedRows,
-    sought: &Sought,
-    from: u64,
-    test: &P,
-    most: usize,
-) -> usize
-    requires { (r : OfRow) → P.is_passed test.now r ≡ true → is_asked sought.now.classes.now sought.now.space sought.now.templates.now r ≡ true }
-    ensures found { result ≡ length (take most (filter (is_next (P.is_passed test.now) from) rows.now)) }
-    ensures numbered { AreNumbered rows.now }
-{
-    let _ = rows.places();
-    let mut after = from;
-    'rows: for count in 0..most {
-        let (classes, space, templates) = (sought.classes, sought.space, sought.templates);
-        let Some(row) = rows.first_above(classes, space, templates, after, test) else {
-            return count;
-        };
-        after = row.number;
-    }
-    most
+/// How many rows a walk finds, and the number of the last.
+#[derive(Drop)]
+pub(crate) struct Walked {
+    pub(crate) count: usize,
+    pub(crate) last: Option<u64>,
 }
 
-/// The number of the last of the first rows above a number that pass, so many.
-pub(crate) fn last_found<P: Test<Row>>(
+/// Walks over the first rows above a number that pass, so many. Takes no memory.
+pub(crate) fn walk<P: Test<Row>>(
     rows: &KeyedRows,
     sought: &Sought,
     from: u64,
     test: &P,
     most: usize,
-) -> Option<u64>
+) -> Walked
     requires { (r : OfRow) → P.is_passed test.now r ≡ true → is_asked sought.now.classes.now sought.now.space sought.now.templates.now r ≡ true }
-    ensures found { result ≡ last_or None (map (λ r. r.number) (take most (filter (is_next (P.is_passed test.now) from) rows.now))) }
+    ensures count { result.count ≡ length (take most (filter (is_next (P.is_passed test.now) from) rows.now)) }
+    ensures last { result.last ≡ last_or None (map (λ r. r.number) (take most (filter (is_next (P.is_passed test.now) from) rows.now))) }
     ensures numbered { AreNumbered rows.now }
 {
     let _ = rows.places();
     let mut last = None;
     let mut after = from;
-    'rows: for _count in 0..most {
+    'rows: for count in 0..most {
         let (classes, space, templates) = (sought.classes, sought.space, sought.templates);
         let Some(row) = rows.first_above(classes, space, templates, after, test) else {
-            return last;
+            return Walked { count, last };
         };
         last = Some(row.number);
         after = row.number;
     }
-    last
+    Walked { count: most, last }
 }

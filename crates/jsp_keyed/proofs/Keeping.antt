@@ -1,19 +1,18 @@
 -- What is named and ended stays so where things come and go.
-use Rattle.std.proofs.Common.{◌≡◌, ◌≢◌, ℕ, ◌<◌, Bool, true, false, not, cond, eqb, List, [], ◌∷◌, ◌++◌, map, Option, Some, None, Result, Ok, Err, ok_or, refl, ap, sym, ◌∙◌, inl, inr}
+use Rattle.std.proofs.Common.{◌≡◌, ℕ, ◌<◌, Bool, true, false, not, cond, eqb, List, [], ◌∷◌, ◌++◌, map, Option, Some, None, Result, Ok, Err, ok_or, refl, ap, sym, ◌∙◌, inl, inr, ◌+◌, length, take, get_or, subst}
 use Rattle.std.specs.Prelude.{OnOk, OnErr, IfSome}
 use Rattle.std.specs.List.{AllByRecursion}
 use Rattle.std.specs.HashMap.{HashMap}
 use Rattle.std.proofs.lemmas.Bool.{cases_eq, eq-eqb, ne_eqb}
-use Rattle.std.proofs.lemmas.List.{map-append}
+use Rattle.std.proofs.lemmas.List.{map-append, take_more}
 use Rattle.jsp_lease.specs.declared.item.Item.{Item}
 use Rattle.jsp_lease.specs.declared.item.Rank.{Rank}
 use Rattle.jsp_lease.specs.declared.fault.LeaseFault.{LeaseFault}
 use Rattle.jsp_lease.specs.declared.fault.LeaseFault.TheVariants.{UnknownLease}
 use Rattle.jsp_lease.specs.Leases.{Leased, is_numbered, item_numbered, with_items, without as without_item}
-use Rattle.jsp_table.specs.Numbers.{names}
 use Rattle.jsp_table.specs.Finding.{numbered, without, AreNumbered}
 use Rattle.jsp_table.proofs.Finding.{each, found_number}
-use Rattle.jsp_keyed.specs.Kept.{IsNamed, Keeps, KeepsOthers, AreKeyed, item_of}
+use Rattle.jsp_keyed.specs.Kept.{IsNamed, AreNamed, Keeps, KeepsOthers, AreKeyed, item_of}
 use Rattle.jsp_keyed.proofs.Named.{All-append, still_named}
 
 -- ---- an item goes
@@ -91,4 +90,20 @@ module _ {T : Type 0} (num : T → ℕ) (keys_of : ℕ → T → List ℕ) (end_
       named = All-append (λ x. IsNamed hints (num x) (keys_of seed x)) xs (x ∷ []) h.named (named, tt);
       ended = is ∙ (ap (λ w. w ++ end x ∷ []) h.ended ∙ sym (map-append end xs (x ∷ [])));
       positive = All-append (λ x. 0 < num x) xs (x ∷ []) h.positive (up, tt);
+    }
+
+    -- ---- several come
+
+    pub named_more : (old new : HashMap ℕ (List ℕ) S) (xs : List T) (i : ℕ) (x : T) → i < length xs → x ≡ get_or xs i x → Keeps old new → IsNamed new (num x) (keys_of seed x) → AreNamed num keys_of seed old (take i xs) → AreNamed num keys_of seed new (take (i + 1) xs)
+    named_more old new xs i x lt is keeps this h =
+        let more : take (i + 1) xs ≡ take i xs ++ x ∷ [] = take_more xs i x lt ∙ ap (λ w. take i xs ++ w ∷ []) (sym is) in
+        let still = each (λ x. IsNamed old (num x) (keys_of seed x)) (λ x. IsNamed new (num x) (keys_of seed x)) (take i xs) h (λ x g. still_named old new (num x) (keys_of seed x) (λ k. keeps k (num x)) g) in
+        subst (AreNamed num keys_of seed new) (sym more) (All-append (λ x. IsNamed new (num x) (keys_of seed x)) (take i xs) (x ∷ []) still (this, tt))
+
+    pub more_come : (hints : HashMap ℕ (List ℕ) S) (ends new : Leased) (xs come : List T) → new.items ≡ ends.items ++ map end come → AreNamed num keys_of seed hints come → AllByRecursion (λ x. 0 < num x) (xs ++ come)
+        → AreKeyed num keys_of end_of rank_of seed hints ends xs → AreKeyed num keys_of end_of rank_of seed hints new (xs ++ come)
+    more_come hints ends new xs come is named up h = record {
+      named = All-append (λ x. IsNamed hints (num x) (keys_of seed x)) xs come h.named named;
+      ended = is ∙ (ap (λ w. w ++ map end come) h.ended ∙ sym (map-append end xs come));
+      positive = up;
     }

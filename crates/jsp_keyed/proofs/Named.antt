@@ -1,17 +1,18 @@
 -- Numbers that are named under keys stay so.
-use Rattle.std.proofs.Common.{◌≡◌, ◌≢◌, ℕ, ◌+◌, ◌<◌, Bool, true, false, ◌||◌, ◌&&◌, eqb, nat_lt, List, [], ◌∷◌, ◌++◌, length, take, get_or, refl, ap, sym, ◌∙◌, inl, inr, ◌⊎◌}
-use Rattle.std.specs.Prelude.{slice_index, nat_eq, Some, None}
+use Rattle.std.proofs.Common.{◌≡◌, ℕ, ◌+◌, ◌<◌, Bool, true, false, ◌||◌, ◌&&◌, eqb, nat_lt, List, [], ◌∷◌, ◌++◌, length, take, get_or, refl, ap, sym, ◌∙◌, inl, inr, ◌⊎◌}
+use Rattle.std.specs.Prelude.{slice_index, nat_eq, Some, None, find}
 use Rattle.std.specs.List.{AllByRecursion, list_any}
 use Rattle.std.specs.Option.{option_map_or}
 use Rattle.std.specs.HashMap.{HashMap, get}
 use Rattle.std.proofs.lemmas.List.{take_more}
 use Rattle.jsp_table.specs.Numbers.{names, contains}
-use Rattle.jsp_table.specs.Finding.{is_hit}
+use Rattle.jsp_table.specs.Finding.{is_hit, AreNumbered, AreNamed as AreNamedBy}
 use Rattle.jsp_table.proofs.Rising.{or_cases}
 use Rattle.jsp_table.proofs.Finding.{each}
-use Rattle.jsp_keyed.specs.Finding.{is_next, is_sought}
+use Rattle.jsp_keyed.specs.Finding.{is_next, is_sought, IsLeast}
 use Rattle.jsp_keyed.specs.Kept.{IsNamed, Keeps}
 use Rattle.jsp_keyed.proofs.Walking.{and_both, eqb_eq}
+use Rattle.jsp_keyed.proofs.Least.{found_least, least_among}
 
 pub All-append : {X : Type 0} (P : X → Type 0) (xs ys : List X) → AllByRecursion P xs → AllByRecursion P ys → AllByRecursion P (xs ++ ys)
 All-append P [] ys h k = k
@@ -44,7 +45,7 @@ module _ {S : Type 0} where
       rw (take_more keys i 0 lt) (All-append (λ k. names new k n ≡ true) (take i keys) (get_or keys i 0 ∷ []) (still_named old new n (take i keys) (λ k. keeps k n) h) (this, tt))
 
   -- a key that is among those is one under which it is named
-  named_under : (hints : HashMap ℕ (List ℕ) S) (n : ℕ) (keys : List ℕ) (k : ℕ) → IsNamed hints n keys → contains keys k ≡ true → names hints k n ≡ true
+  pub named_under : (hints : HashMap ℕ (List ℕ) S) (n : ℕ) (keys : List ℕ) (k : ℕ) → IsNamed hints n keys → contains keys k ≡ true → names hints k n ≡ true
   named_under hints n [] k h e = absurd (cc)
   named_under hints n (m ∷ keys) k h e = elim (or_cases (eqb m k) (contains keys k) e) [
     | inl f ↦ ap (λ w. names hints w n) (sym (eqb_eq m k f)) ∙ h.0
@@ -72,8 +73,32 @@ module _ {T : Type 0} (num : T → ℕ) (passed : T → Bool) (numbers : List �
       let two = and_both (contains numbers (num x)) (passed x) one.1 in
       and_true (nat_lt after (num x)) (passed x) one.0 two.1
 
-  pub named_hits : {S : Type 0} (hints : HashMap ℕ (List ℕ) S) (key : ℕ) → get nat_eq hints key ≡ Some numbers → (x : T) → is_next num passed after x ≡ true → names hints key (num x) ≡ true → is_hit num passed numbers after x ≡ true
-  named_hits hints key there x h named =
+  hits : (x : T) → is_next num passed after x ≡ true → contains numbers (num x) ≡ true → is_hit num passed numbers after x ≡ true
+  hits x h has =
       let one = and_both (nat_lt after (num x)) (passed x) h in
-      let has : contains numbers (num x) ≡ true = sym (ap (λ o. option_map_or (λ ns. contains ns (num x)) o false) there) ∙ named in
       and_true (nat_lt after (num x)) (contains numbers (num x) && passed x) one.0 (and_true (contains numbers (num x)) (passed x) has one.1)
+
+  pub named_hits : {S : Type 0} (hints : HashMap ℕ (List ℕ) S) (key : ℕ) → get nat_eq hints key ≡ Some numbers → (x : T) → is_next num passed after x ≡ true → names hints key (num x) ≡ true → is_hit num passed numbers after x ≡ true
+  named_hits hints key there x h named = hits x h (sym (ap (λ o. option_map_or (λ ns. contains ns (num x)) o false) there) ∙ named)
+
+  -- what is found among those that are named, where all of a kind are
+  pub hit_least : (kind : T → Bool) (xs : List T) → AreNumbered num xs → AreNamedBy num kind numbers xs → IsLeast num (is_next num passed after) kind xs (find (is_hit num passed numbers after) xs)
+  hit_least kind xs up named =
+      least_among num (is_next num passed after) (λ x. kind x ≡ true → contains numbers (num x) ≡ true) (λ x. contains numbers (num x)) kind xs (find (is_hit num passed numbers after) xs) named (λ x f k. f k)
+      (found_least num (is_next num passed after) (is_hit num passed numbers after) (λ x. contains numbers (num x)) xs up hit_passes hits)
+
+-- ---- of a kind of which all have a key
+
+module _ {T : Type 0} (num : T → ℕ) (keys : T → List ℕ) {S : Type 0} (hints : HashMap ℕ (List ℕ) S) (key : ℕ) (kind : T → Bool) where
+  kind_named : ((x : T) → kind x ≡ true → contains (keys x) key ≡ true) → (x : T) → IsNamed hints (num x) (keys x) → kind x ≡ true → names hints key (num x) ≡ true
+  kind_named have x named k = named_under hints (num x) (keys x) key named (have x k)
+
+  pub kind_among : (numbers : List ℕ) (xs : List T) → get nat_eq hints key ≡ Some numbers → ((x : T) → kind x ≡ true → contains (keys x) key ≡ true) → AllByRecursion (λ x. IsNamed hints (num x) (keys x)) xs → AreNamedBy num kind numbers xs
+  kind_among numbers xs there have named =
+      each (λ x. IsNamed hints (num x) (keys x)) (λ x. kind x ≡ true → contains numbers (num x) ≡ true) xs named
+      (λ x h k. sym (ap (λ o. option_map_or (λ ns. contains ns (num x)) o false) there) ∙ kind_named have x h k)
+
+  pub kind_none : (numbers : List ℕ) (xs : List T) → get nat_eq hints key ≡ None → ((x : T) → kind x ≡ true → contains (keys x) key ≡ true) → AllByRecursion (λ x. IsNamed hints (num x) (keys x)) xs → AreNamedBy num kind numbers xs
+  kind_none numbers xs none have named =
+      each (λ x. IsNamed hints (num x) (keys x)) (λ x. kind x ≡ true → contains numbers (num x) ≡ true) xs named
+      (λ x h k. absurd (cc (not_named hints key (num x) none, kind_named have x h k)))

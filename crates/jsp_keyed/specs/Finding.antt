@@ -8,6 +8,11 @@ use Rattle.jsp_table.specs.Finding.{numbered}
 abbrev pub is_sought : List ℕ → List ℕ → Bool
 is_sought sought keys = list_any (contains keys) sought
 
+module _ {T : Type 0} (keys_of : ℕ → T → List ℕ) where
+  -- each thing of the kind has the key, whatever the seed is
+  abbrev pub HaveKey : (ℕ → ℕ) → (T → Bool) → Type 0
+  HaveKey key_by kind = (seed : ℕ) (x : T) → kind x ≡ true → contains (keys_of seed x) (key_by seed) ≡ true
+
 module _ {T : Type 0} (num : T → ℕ) where
   -- the thing is above the number and passes
   abbrev pub is_next : (T → Bool) → ℕ → T → Bool

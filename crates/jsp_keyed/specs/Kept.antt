@@ -24,6 +24,11 @@ module _ {T : Type 0} (num : T → ℕ) (end_of : T → ℕ) (rank_of : Rank) wh
   abbrev pub item_of : T → Item
   item_of x = record { end = end_of x; rank = rank_of; number = num x }
 
+module _ {T : Type 0} (num : T → ℕ) (keys_of : ℕ → T → List ℕ) where
+  -- each thing is named under its keys
+  abbrev pub AreNamed : {S : Type 0} → ℕ → HashMap ℕ (List ℕ) S → List T → Type 0
+  AreNamed seed hints xs = AllByRecursion (λ x. IsNamed hints (num x) (keys_of seed x)) xs
+
 module _ {T : Type 0} (num : T → ℕ) (keys_of : ℕ → T → List ℕ) (end_of : T → ℕ) (rank_of : Rank) where
   -- each is named under its keys, and has its end and a number above 0
   pub record AreKeyed {S : Type 0} (seed : ℕ) (hints : HashMap ℕ (List ℕ) S) (leased : Leased) (xs : List T) : Type 0 where

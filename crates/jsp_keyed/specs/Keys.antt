@@ -25,12 +25,23 @@ mix_value key (value.Int n) = mix key (int_code n)
 mix_value key (value.Text t) = mix_all key t
 mix_value key (value.Bool b) = mix key (if b then 1 else 0)
 
--- of what has a number of this kind; spaces, classes and fields have the first three kinds
+-- of what has a number of this kind; spaces, classes and fields have the first three kinds, sessions, transactions
+-- and templates without a value the kinds 4, 5 and 8
 abbrev pub number_key : ℕ → ℕ → ℕ → ℕ
 number_key seed kind number = mix (mix seed kind) number
 
 abbrev pub space_key : ℕ → ℕ → ℕ
 space_key seed space = number_key seed 1 space
+
+abbrev pub session_key : ℕ → ℕ → ℕ
+session_key seed session = number_key seed 4 session
+
+abbrev pub transaction_key : ℕ → ℕ → ℕ
+transaction_key seed x = number_key seed 5 x
+
+-- of those at a space whose template asks for no value
+abbrev pub any_key : ℕ → ℕ → ℕ
+any_key seed space = number_key seed 8 space
 
 abbrev pub class_key : ℕ → ℕ → List ℕ → ℕ
 class_key seed space class = mix_all (number_key seed 2 space) class

@@ -1,3 +1,7 @@
 pub mod Keys
+pub mod Templates
 pub mod Finding
 pub mod Kept
+pub mod Changing
+pub mod Coming
+pub mod Ending

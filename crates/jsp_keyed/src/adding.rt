@@ -10,7 +10,7 @@ use jsp_table::{Numbering, Table};
 use std::alloc::Global;
 
 /// A thing's end, as an item.
-pub(crate) fn item<T, K: Numbering<T> + Keying<T>>(thing: &T) -> Item
+pub fn item<T, K: Numbering<T> + Keying<T>>(thing: &T) -> Item
     ensures { result ≡ item_of K.number_of K.end_of K.rank_of thing.now }
 {
     Item {

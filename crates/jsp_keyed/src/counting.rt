@@ -24,7 +24,7 @@ impl<T, K: Numbering<T> + Keying<T>> Keyed<T, K> {
     }
 
     /// The number of the first thing that passes the test.
-    fn first_number<P: Test<T> + Keys>(&self, test: &P) -> Option<u64>
+    pub fn first_number<P: Test<T> + Keys>(&self, test: &P) -> Option<u64>
         requires { (seed : ℕ) (x : T) → P.is_passed test.now x ≡ true → is_sought (P.sought test.now seed) (K.keys_of seed x) ≡ true }
         ensures found { result ≡ option_map K.number_of (find (P.is_passed test.now) self.now) }
         ensures rising { AreNumbered K.number_of self.now }

@@ -21,7 +21,7 @@ pub fn lesser<'a, T, K: Numbering<T>>(a: Option<&'a T>, b: Option<&'a T>) -> Opt
 }
 
 /// The first thing above a number that is named under the key and passes the test.
-pub fn first_under<'a, T, K: Numbering<T>, P: Test<T>>(
+fn first_under<'a, T, K: Numbering<T>, P: Test<T>>(
     table: &'a Table<T, K>,
     hints: &Hints,
     key: u64,

@@ -10,7 +10,7 @@ use crate::adding::{append, cancel, item, place};
 use crate::naming::{forget_gone, name};
 use crate::{Keying, NoMemory};
 use jsp_lease::{Item, Leases};
-use jsp_table::{Hints, Numbering, Table};
+use jsp_table::{Hints, Numbering, Numbers, Table};
 use std::alloc::Global;
 use std::collections::HashMap;
 use std::marker::Model;
@@ -24,6 +24,8 @@ pub struct Keyed<T, K: Numbering<T> + Keying<T>> {
     pub(crate) table: Table<T, K>,
     /// The numbers of the things under each key. A list may name more.
     pub(crate) hints: Hints,
+    /// No numbers, for keys that have no list.
+    pub(crate) none: Numbers,
     pub(crate) ends: Leases,
 }
 
@@ -48,6 +50,7 @@ impl<T, K: Numbering<T> + Keying<T>> Keyed<T, K> {
             seed,
             table: Table::new(alloc),
             hints: HashMap::new(alloc),
+            none: Numbers::new(alloc),
             ends: Leases::new(alloc),
         }
     }

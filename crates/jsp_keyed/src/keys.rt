@@ -1,7 +1,7 @@
 //! Keys, by a seed that clients don't know. Two keys may be the same number: a list of hints
 //! may name more than it has to.
 ghost use Rattle.std.specs.Prelude.{◌≡◌};
-ghost use Rattle.jsp_keyed.specs.Keys.{folded_multiply as folded, mix as mixed, mix_all, int_code as code_of_int, mix_value as value_mixed, number_key, space_key, class_key, field_key};
+ghost use Rattle.jsp_keyed.specs.Keys.{folded_multiply as folded, mix as mixed, mix_all, int_code as code_of_int, mix_value as value_mixed, number_key, space_key, session_key, transaction_key, class_key, field_key};
 
 use jsp_types::Value;
 
@@ -58,7 +58,7 @@ fn mix_value(key: u64, value: &Value) -> u64
     }
 }
 
-/// The key of what has a number of this kind. The first three kinds have calls of their own below.
+/// The key of what has a number of this kind. The kinds 1 to 5 and 8 have calls of their own.
 pub fn key_of_number(seed: u64, kind: u64, number: u64) -> u64
     ensures { result ≡ number_key seed kind number }
 {
@@ -70,6 +70,20 @@ pub fn key_of_space(seed: u64, space: u64) -> u64
     ensures { result ≡ space_key seed space }
 {
     key_of_number(seed, 1, space)
+}
+
+/// The key of what is a session's.
+pub fn key_of_session(seed: u64, session: u64) -> u64
+    ensures { result ≡ session_key seed session }
+{
+    key_of_number(seed, 4, session)
+}
+
+/// The key of what is under a transaction.
+pub fn key_of_transaction(seed: u64, x: u64) -> u64
+    ensures { result ≡ transaction_key seed x }
+{
+    key_of_number(seed, 5, x)
 }
 
 /// The key of what a space has of a class.

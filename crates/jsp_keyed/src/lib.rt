@@ -6,19 +6,33 @@
 //!
 //! A list of numbers names at least each thing that has its key, and may name others, so it never
 //! decides: each thing that is named gets the full test, and what is found first is the first of all
-//! that pass, as each contract says. Adding is whole or not at all; nothing else takes memory.
+//! that pass, as each contract says. What adds is whole or not at all, and so is a change that takes
+//! memory; nothing else takes any.
 #![tactic(auto)]
 
 mod adding;
+mod appending;
+mod changing;
+mod changing_all;
 mod counting;
+mod ends;
 mod finding;
 mod keyed;
 mod keying;
 mod keys;
+mod listing;
 mod naming;
+mod slots;
+mod templates;
+mod under;
 
-pub use finding::{first_under, lesser};
+pub use adding::item;
+pub use finding::lesser;
 pub use jsp_types::NoMemory;
 pub use keyed::Keyed;
-pub use keying::{Keying, Keys};
-pub use keys::{key_of_class, key_of_field, key_of_number, key_of_space};
+pub use keying::{Key, Keying, Keys};
+pub use keys::{
+    key_of_class, key_of_field, key_of_number, key_of_session, key_of_space, key_of_transaction,
+};
+pub use slots::sooner;
+pub use templates::{entry_key, key_of_template};

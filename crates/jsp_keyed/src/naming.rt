@@ -1,6 +1,6 @@
 //! Numbers named under keys.
 ghost use Rattle.std.specs.Prelude.{◌≡◌, OnOk, IfSome};
-ghost use Rattle.jsp_keyed.specs.Kept.{IsNamed, Keeps, KeepsOthers};
+ghost use Rattle.jsp_keyed.specs.Kept.{IsNamed, AreNamed, Keeps, KeepsOthers};
 
 use crate::{Keying, NoMemory};
 use jsp_table::{Hints, Numbering, add_hint, drop_hint};
@@ -19,6 +19,22 @@ pub(crate) fn name<T, K: Numbering<T> + Keying<T>>(
     let number = K::number(thing);
     'places: for place in 0..K::count(seed, thing) {
         add_hint(alloc, hints, K::key(seed, thing, place), number)?;
+    }
+    Ok(())
+}
+
+/// Names things under each of their keys. Nothing goes from any list, on `Err` either.
+pub(crate) fn name_all<T, K: Numbering<T> + Keying<T>>(
+    alloc: Global,
+    seed: u64,
+    hints: &mut Hints,
+    things: &[T],
+) -> Result<(), NoMemory>
+    ensures ok { OnOk result (AreNamed K.number_of K.keys_of seed hints.new things.now) }
+    ensures keeps { Keeps hints.old hints.new }
+{
+    'things: for thing in things {
+        name::<T, K>(alloc, seed, hints, thing)?;
     }
     Ok(())
 }

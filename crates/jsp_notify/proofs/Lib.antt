@@ -1,1 +1,4 @@
 pub mod Owed
+pub mod Telling
+pub mod Listening
+pub mod Keyed

@@ -1,2 +1,5 @@
 pub mod Owing
 pub mod Registered
+pub mod Sought
+pub mod Waiting
+pub mod Hinted

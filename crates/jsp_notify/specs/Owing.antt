@@ -1,5 +1,5 @@
 -- What registrations are owed of rows that are written or published.
-use Rattle.std.specs.Prelude.{ℕ, ◌-◌, Bool, ◌&&◌, ◌==◌, List, ◌++◌, map, filter, length, take, Option}
+use Rattle.std.specs.Prelude.{ℕ, ◌-◌, Bool, ◌&&◌, ◌==◌, List, [], ◌∷◌, ◌++◌, map, filter, length, take, Option}
 use Rattle.jsp_types.specs.declared.class.Class.{Class}
 use Rattle.jsp_types.specs.Matching.{matches}
 use Rattle.jsp_model.specs.declared.state.Row.{Row}
@@ -21,3 +21,11 @@ owed classes caller rows r = record r { owed = r.owed ++ numbers_of_news classes
 -- without as many as it was owed last
 abbrev pub forgiven : List Class → Option ℕ → List Row → Registration → Registration
 forgiven classes caller rows r = record r { owed = take (length r.owed - length (filter (is_news classes caller r) rows)) r.owed }
+
+-- one row more
+abbrev pub owed_one : ℕ → Registration → Registration
+owed_one n r = record r { owed = r.owed ++ n ∷ [] }
+
+-- one row less, the last
+abbrev pub owed_less : Registration → Registration
+owed_less r = record r { owed = take (length r.owed - 1) r.owed }

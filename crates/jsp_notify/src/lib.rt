@@ -3,12 +3,20 @@
 //!
 //! `Registrations` has private fields. What there is to do with them is a call of one of four forms:
 //! add one, leave some out, change some in place, find. The contract of each says by the plain list
-//! what it leaves or answers (`specs/Owing.antt`, `specs/Registered.antt`). What adds is whole or not
-//! at all; only that, and what answers in lists, takes memory.
+//! what it leaves or answers (`specs/Owing.antt`, `specs/Registered.antt`). They are found by hints
+//! (jsp_keyed): by session, by transaction, by space, by the first value that their templates ask for, so
+//! that a row that is written finds those that it is news to, and by space where they are owed an event.
+//! What adds is whole or not at all; only that, and what answers in lists, takes memory.
 #![tactic(auto)]
 
+mod asking;
+mod by_number;
+mod changing;
+mod finding;
+mod hinted;
+mod naming;
 mod owing;
 mod registrations;
-mod telling;
+mod scanned;
 
 pub use registrations::Registrations;

@@ -105,7 +105,12 @@ fn count_news(
 }
 
 /// Whether the row is news to the registration.
-fn is_news(classes: &Classes, caller: Option<u64>, registration: &Registration, row: &Row) -> bool
+pub(crate) fn is_news(
+    classes: &Classes,
+    caller: Option<u64>,
+    registration: &Registration,
+    row: &Row,
+) -> bool
     ensures { result ≡ has_news classes.now caller registration.now row.now }
 {
     hears(registration.transaction, caller)

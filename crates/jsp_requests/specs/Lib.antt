@@ -1,4 +1,3 @@
 pub mod Cancelling
-pub mod Ending
 pub mod Greeting
 pub mod Telling

@@ -118,8 +118,6 @@ pub fn accept(
     requires time { state.old.time ≤ LAST_TIME }
     requires numbers { state.old.next_number ≤ LAST_NUMBER + 1 }
     requires rows { IsTrue (are_rising 0 state.old.next_number (map (λ r. r.number) state.old.rows)) }
-    requires transactions { IsTrue (are_rising 0 state.old.next_number (map (λ t. t.number) state.old.transactions)) }
-    requires sets { IsTrue (are_rising 0 state.old.next_number (map (λ m. m.number) state.old.sets)) }
     requires crashes { IsTrue (list_all (λ p. nat_le p.crash_count LAST_CRASH_COUNT) state.old.spaces) }
     requires fits { IsTrue (has_fitting_parts ask.now) }
     requires accepted { refusal_of state.old session id ask.now ≡ None }
@@ -141,8 +139,6 @@ fn make(
     requires time { state.old.time ≤ LAST_TIME }
     requires numbers { state.old.next_number ≤ LAST_NUMBER + 1 }
     requires rows { IsTrue (are_rising 0 state.old.next_number (map (λ r. r.number) state.old.rows)) }
-    requires transactions { IsTrue (are_rising 0 state.old.next_number (map (λ t. t.number) state.old.transactions)) }
-    requires sets { IsTrue (are_rising 0 state.old.next_number (map (λ m. m.number) state.old.sets)) }
     requires crashes { IsTrue (list_all (λ p. nat_le p.crash_count LAST_CRASH_COUNT) state.old.spaces) }
     requires fits { IsTrue (has_fitting_parts ask.now) }
     requires accepted { first_that (own_tests state.old session id ask.now) ≡ None }

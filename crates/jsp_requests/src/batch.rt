@@ -12,8 +12,10 @@ ghost use Rattle.jsp_model.specs.declared.limits.TheConstants.{LAST_TIME};
 use crate::lease::{accept_cancel, accept_renew, refuse_cancel, refuse_renew};
 use jsp_core::Core;
 use jsp_lease::ms_of;
+use jsp_model::{MatchSet, Registration, Transaction};
 use jsp_reply::{LeaseAnswer, LeaseOutcome, Refusal};
 use jsp_state::{is_caller, is_living, is_voting, named, rank_of};
+use jsp_table::Test;
 use jsp_types::{Items, NoMemory};
 use std::alloc::Global;
 
@@ -143,24 +145,55 @@ fn is_row_left(state: &Core, earlier: &[i64], number: u64) -> bool
 fn is_registration_left(state: &Core, earlier: &[i64], number: u64) -> bool
     ensures { result ≡ list_any (λ r. r.number == number && not (ended state.now earlier.now r.number r.transaction)) state.now.registrations }
 {
-    state.registrations.any_of(
-        number,
-        |r| !is_ended(state, earlier, r.number, r.transaction),
-    )
+    state
+        .registrations
+        .any_of(number, &IsLeft { state, earlier })
 }
 
 fn is_transaction_left(state: &Core, earlier: &[i64], number: u64) -> bool
     ensures { result ≡ list_any (λ t. t.number == number && not (ended state.now earlier.now t.number None)) state.now.transactions }
 {
-    let transactions = state.transactions.as_slice();
-    transactions.iter().any(|t| t.number == number && !is_ended(state, earlier, t.number, None))
+    state
+        .transactions
+        .any_of(number, &IsLeft { state, earlier })
 }
 
 fn is_set_left(state: &Core, earlier: &[i64], number: u64) -> bool
     ensures { result ≡ list_any (λ m. m.number == number && not (ended state.now earlier.now m.number m.transaction)) state.now.sets }
 {
-    state.sets.as_slice().iter().any(|m| m.number == number
-        && !is_ended(state, earlier, m.number, m.transaction))
+    state.sets.any_of(number, &IsLeft { state, earlier })
+}
+
+/// Whether a thing is there still, once some leases are cancelled.
+#[derive(Drop)]
+struct IsLeft<'a> {
+    state: &'a Core,
+    earlier: &'a [i64],
+}
+
+impl<'a> Test<Registration> for IsLeft<'a> {
+    ghost is_passed = { λ l r. not (ended l.state.now l.earlier.now r.number r.transaction) };
+
+    fn passes(&self, registration: &Registration) -> bool {
+        let number = registration.number;
+        !is_ended(self.state, self.earlier, number, registration.transaction)
+    }
+}
+
+impl<'a> Test<Transaction> for IsLeft<'a> {
+    ghost is_passed = { λ l t. not (ended l.state.now l.earlier.now t.number None) };
+
+    fn passes(&self, transaction: &Transaction) -> bool {
+        !is_ended(self.state, self.earlier, transaction.number, None)
+    }
+}
+
+impl<'a> Test<MatchSet> for IsLeft<'a> {
+    ghost is_passed = { λ l m. not (ended l.state.now l.earlier.now m.number m.transaction) };
+
+    fn passes(&self, set: &MatchSet) -> bool {
+        !is_ended(self.state, self.earlier, set.number, set.transaction)
+    }
 }
 
 /// Whether one of these leases, once cancelled, ends what has the number, or the transaction that it

@@ -15,6 +15,7 @@ use jsp_reply::{Refusal, TxnState};
 use jsp_state::{
     crash_count, is_living, is_used_up, is_voting, named, place_of, space_named, waits_for_many,
 };
+use jsp_table::Test;
 
 /// Why a transaction isn't begun, or nothing where it is.
 pub(crate) fn refuse_begin(state: &Core, lease: &i64) -> Option<Refusal>
@@ -35,7 +36,7 @@ pub(crate) fn refuse_begin(state: &Core, lease: &i64) -> Option<Refusal>
 fn is_full(state: &Core) -> bool
     ensures { result ≡ nat_le MOST_TRANSACTIONS (length state.now.transactions) }
 {
-    MOST_TRANSACTIONS <= state.transactions.as_slice().len()
+    state.transactions.has_at_least(MOST_TRANSACTIONS)
 }
 
 /// Why nothing is asked of a transaction: there is none of this number.
@@ -97,11 +98,21 @@ pub(crate) fn refuse_reset(state: &Core, space: &str) -> Option<Refusal>
 fn is_in_doubt(state: &Core, space: u64) -> bool
     ensures { result ≡ in_doubt state.now space }
 {
-    state
-        .transactions
-        .as_slice()
-        .iter()
-        .any(|t| is_prepared_in(t, space))
+    state.transactions.any(&PreparedIn { space })
+}
+
+/// Whether a space has voted for a transaction that changed something there.
+#[derive(Drop)]
+struct PreparedIn {
+    space: u64,
+}
+
+impl Test<Transaction> for PreparedIn {
+    ghost is_passed = { λ p t. list_any (λ j. j.space == p.space && prepared j.vote) t.joined };
+
+    fn passes(&self, transaction: &Transaction) -> bool {
+        is_prepared_in(transaction, self.space)
+    }
 }
 
 fn is_prepared_in(transaction: &Transaction, space: u64) -> bool

@@ -1,7 +1,7 @@
--- The first item that is due, found from the last to the first.
-use Rattle.std.proofs.Common.{◌≡◌, ℕ, Bool, true, false, cond, List, [], ◌∷◌, ◌++◌, map, Option, None, refl, ap, sym, ◌∙◌}
-use Rattle.std.specs.Prelude.{filter, fold, reverse, not, nat_le}
-use Rattle.std.proofs.lemmas.List.{reverse-append, append-nil}
+-- The first item that is due, of the first of each kind.
+use Rattle.std.proofs.Common.{◌≡◌, ℕ, suc, length, arith, Bool, true, false, cond, List, [], ◌∷◌, ◌++◌, map, Option, None, refl, ap, sym, ◌∙◌}
+use Rattle.std.specs.Prelude.{filter, find, is_some, not, nat_le, ◌==◌}
+use Rattle.std.proofs.lemmas.Bool.{ne_eqb}
 use Rattle.std.proofs.lemmas.List.Elements.{filter-append}
 use Rattle.jsp_lease.specs.declared.item.Item.{Item}
 use Rattle.jsp_lease.specs.Due.{first_item, over_by}
@@ -15,27 +15,23 @@ use Rattle.jsp_model.specs.Lookup.{is_voting}
 use Rattle.jsp_model.specs.Due.{due}
 use Rattle.jsp_lease.specs.Tournament.{earlier as soonest}
 use Rattle.jsp_sight.specs.Rows.{row_end, earlier}
-use Rattle.jsp_sight.proofs.Earliest.{sooner, first_with, with_none, with_is, backwards, sooner_is}
+use Rattle.jsp_model.specs.declared.state.Commit.{Commit}
+use Rattle.jsp_sight.proofs.Earliest.{first_with, with_none, with_is}
 use Rattle.jsp_wait.specs.Waiting.{blocked_end}
 use Rattle.jsp_notify.specs.Registered.{registration_end}
-use Rattle.jsp_state.specs.Ends.{transaction_end, set_end}
+use Rattle.jsp_txn.specs.Ending.{transaction_end}
+use Rattle.jsp_wait.specs.Sets.{set_end}
 
 with_both : (xs ys : List Item) (first : Option Item) → first_with (xs ++ ys) first ≡ first_with xs (first_with ys first)
 with_both [] ys first = refl
 with_both (a ∷ xs) ys first = ap (λ o. earlier o a) (with_both xs ys first)
 
-reverse_filter : {X : Type 0} (p : X → Bool) (xs : List X) → filter p (reverse xs) ≡ reverse (filter p xs)
-reverse_filter p [] = refl
-reverse_filter p (x ∷ xs) =
-    ap (filter p) (reverse-append (x ∷ []) xs) ∙ filter-append p (reverse xs) (x ∷ []) ∙ ap (λ w. w ++ filter p (x ∷ [])) (reverse_filter p xs)
-    ∙ elim (p x) as (λ b. reverse (filter p xs) ++ cond b (x ∷ []) [] ≡ reverse (cond b (x ∷ filter p xs) (filter p xs))) [ true ↦ sym (reverse-append (x ∷ []) (filter p xs)) | false ↦ append-nil (reverse (filter p xs)) ]
-
 over_both : (time : ℕ) (xs ys : List Item) (first : Option Item) → first_with (over_by time (xs ++ ys)) first ≡ first_with (over_by time xs) (first_with (over_by time ys) first)
 over_both time xs ys first = ap (λ w. first_with w first) (filter-append (λ (i : Item). nat_le i.end time) xs ys) ∙ with_both (over_by time xs) (over_by time ys) first
 
 -- the kinds one after another
-pub due_is : (st : State) (s b t r e : Option Item) → s ≡ sooner st.time set_end st.sets None → b ≡ soonest (first_item (over_by st.time (map blocked_end st.blocked))) s
-    → t ≡ fold earlier b (over_by st.time (map transaction_end (filter (λ (t : Transaction). not (is_voting st t.number)) (reverse st.transactions))))
+pub due_is : (st : State) (s b t r e : Option Item) → s ≡ first_item (over_by st.time (map set_end st.sets)) → b ≡ soonest (first_item (over_by st.time (map blocked_end st.blocked))) s
+    → t ≡ soonest (first_item (over_by st.time (map transaction_end (filter (λ (t : Transaction). not (is_voting st t.number)) st.transactions)))) b
     → r ≡ soonest (first_item (over_by st.time (map registration_end st.registrations))) t → e ≡ soonest (first_item (over_by st.time (map row_end st.rows))) r → e ≡ due st
 unfolding due
 due_is st s b t r e is_s is_b is_t is_r is_e =
@@ -46,9 +42,9 @@ due_is st s b t r e is_s is_b is_t is_r is_e =
     let transactions = map transaction_end active in
     let blocked = map blocked_end st.blocked in
     let sets = map set_end st.sets in
-    let set_first = is_s ∙ sooner_is time set_end st.sets None in
+    let set_first = is_s ∙ with_none (over_by time sets) in
     let blocked_first = is_b ∙ sym (with_is (over_by time blocked) s) ∙ ap (first_with (over_by time blocked)) set_first in
-    let transaction_first = is_t ∙ ap (λ w. fold earlier b (over_by time (map transaction_end w))) (reverse_filter (λ (t : Transaction). not (is_voting st t.number)) st.transactions) ∙ backwards time transaction_end active b ∙ ap (first_with (over_by time transactions)) blocked_first in
+    let transaction_first = is_t ∙ sym (with_is (over_by time transactions) b) ∙ ap (first_with (over_by time transactions)) blocked_first in
     let registration_first = is_r ∙ sym (with_is (over_by time registrations) t) ∙ ap (first_with (over_by time registrations)) transaction_first in
     let row_first = is_e ∙ sym (with_is (over_by time rows) r) ∙ ap (first_with (over_by time rows)) registration_first in
     row_first
@@ -61,8 +57,40 @@ due_is st s b t r e is_s is_b is_t is_r is_e =
 -- the same, of fields that were read
 pub due_is_seen : (st : State) (time : ℕ) (sets : List MatchSet) (blocked : List Blocked) (registrations : List Registration) (rows : List Row) (s b t r e : Option Item)
     → time ≡ st.time → sets ≡ st.sets → blocked ≡ st.blocked → registrations ≡ st.registrations → rows ≡ st.rows
-    → s ≡ sooner time set_end sets None → b ≡ soonest (first_item (over_by time (map blocked_end blocked))) s
-    → t ≡ fold earlier b (over_by time (map transaction_end (filter (λ (t : Transaction). not (is_voting st t.number)) (reverse st.transactions))))
+    → s ≡ first_item (over_by time (map set_end sets)) → b ≡ soonest (first_item (over_by time (map blocked_end blocked))) s
+    → t ≡ soonest (first_item (over_by time (map transaction_end (filter (λ (t : Transaction). not (is_voting st t.number)) st.transactions)))) b
     → r ≡ soonest (first_item (over_by time (map registration_end registrations))) t → e ≡ soonest (first_item (over_by time (map row_end rows))) r → e ≡ due st
 due_is_seen st time sets blocked registrations rows s b t r e to es eb er eo is_s is_b is_t is_r is_e =
     due_is st s b t r e (rw (to, es) at is_s) (rw (to, eb) at is_b) (rw to at is_t) (rw (to, er) at is_r) (rw (to, eo) at is_e)
+
+-- ---- transactions that don't vote
+
+none_first : (a : Item) (items : List Item) → None ≡ first_item (a ∷ items) → ⊥
+none_first a items h = absurd (cc)
+
+-- where none of all is over, none of some is
+pub none_over : {X : Type 0} (time : ℕ) (f : X → Item) (p : X → Bool) (xs : List X) → None ≡ first_item (over_by time (map f xs)) → None ≡ first_item (over_by time (map f (filter p xs)))
+none_over time f p [] h = h
+none_over time f p (x ∷ xs) h = at (nat_le (f x).end time) refl (p x) (none_over time f p xs) where
+  rest : nat_le (f x).end time ≡ false → None ≡ first_item (over_by time (map f xs))
+  rest e = h ∙ ap (λ b. first_item (cond b (f x ∷ over_by time (map f xs)) (over_by time (map f xs)))) e
+
+  at : (b : Bool) → nat_le (f x).end time ≡ b → (c : Bool) → (None ≡ first_item (over_by time (map f xs)) → None ≡ first_item (over_by time (map f (filter p xs)))) → None ≡ first_item (over_by time (map f (cond c (x ∷ filter p xs) (filter p xs))))
+  at true e c more = absurd (none_first (f x) (over_by time (map f xs)) (h ∙ ap (λ b. first_item (cond b (f x ∷ over_by time (map f xs)) (over_by time (map f xs)))) e))
+  at false e true more = more (rest e) ∙ ap (λ b. first_item (cond b (f x ∷ over_by time (map f (filter p xs))) (over_by time (map f (filter p xs))))) (sym e)
+  at false e false more = more (rest e)
+
+all_pass : {X : Type 0} (xs : List X) → filter (λ _. true) xs ≡ xs
+all_pass [] = refl
+all_pass (x ∷ xs) = ap (λ w. x ∷ w) (all_pass xs)
+
+pub is_none : {X : Type 0} (xs : List X) → (length xs == 0) ≡ true → xs ≡ []
+is_none [] h = refl
+is_none (x ∷ xs) h = absurd (cc (h, ne_eqb (length (x ∷ xs)) 0 (differs (length xs)))) where
+  differs : (n : ℕ) → suc n ≡ 0 → ⊥
+  differs n e = omega arith
+
+-- where no commit is asked, none votes
+pub all_active : (st : State) → st.commits ≡ [] → filter (λ (t : Transaction). not (is_voting st t.number)) st.transactions ≡ st.transactions
+all_active st none =
+    ap (λ (w : List Commit). filter (λ (t : Transaction). not (is_some (find (λ (c : Commit). c.transaction == t.number) w))) st.transactions) none ∙ all_pass st.transactions

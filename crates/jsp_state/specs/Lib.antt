@@ -1,4 +1,3 @@
-pub mod Ends
 pub mod Fitting
 pub mod Outboxes
 pub mod Versions

@@ -37,6 +37,5 @@ pub use sessions::{close, is_open, is_waiting, open, set_version, waits_for_many
 pub use sight::{has_conflict, has_none, must_wait};
 pub use spaces::{crash_count, names_of, place_of, space_named};
 pub use transactions::{
-    commit_of, is_living, is_voting, joined_at, joined_otherwise, place_of_transaction,
-    transaction_of,
+    commit_of, is_living, is_voting, joined_at, joined_otherwise, transaction_of,
 };

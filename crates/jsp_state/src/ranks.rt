@@ -41,5 +41,5 @@ fn is_registration(state: &Core, number: u64) -> bool
 fn is_set(state: &Core, number: u64) -> bool
     ensures { result ≡ list_any (λ m. m.number == number) state.now.sets }
 {
-    state.sets.as_slice().iter().any(|m| m.number == number)
+    state.sets.has(number)
 }

@@ -7,7 +7,7 @@ ghost use Rattle.jsp_state.specs.Versions.{versioned};
 ghost use Rattle.jsp_model.specs.declared.limits.TheConstants.{MOST_WAITING};
 
 use jsp_core::Core;
-use jsp_model::{Commit, MOST_WAITING, MatchSet, Session};
+use jsp_model::{Commit, MOST_WAITING, Session};
 use jsp_types::NoMemory;
 use jsp_wire::Version;
 
@@ -75,19 +75,13 @@ pub fn close(state: &mut Core, session: u64)
     let registrations = &mut state.registrations;
     registrations.remove_of(session);
     let sets = &mut state.sets;
-    drop_sets(&mut sets.items, session);
+    sets.remove_of(session);
 }
 
 fn drop_session(sessions: &mut Vec<Session>, session: u64)
     ensures { sessions.new.items ≡ filter (λ k. not (k.number == session)) sessions.old.items }
 {
     sessions.retain(|k| !(k.number == session));
-}
-
-fn drop_sets(sets: &mut Vec<MatchSet>, session: u64)
-    ensures { sets.new.items ≡ filter (λ m. not (m.session == session)) sets.old.items }
-{
-    sets.retain(|m| !(m.session == session));
 }
 
 /// The session's line has this version from now on (this profile's own).

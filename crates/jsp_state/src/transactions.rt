@@ -1,5 +1,5 @@
 //! Transactions, the spaces that joined them, and their asked commits.
-ghost use Rattle.std.specs.Prelude.{◌≡◌, ◌==◌, Some, find, position, option_copied};
+ghost use Rattle.std.specs.Prelude.{◌≡◌, ◌==◌, Some, find, option_copied};
 ghost use Rattle.jsp_model.specs.Lookup.{transaction_of as transaction_named, joined_at as joined_of_space, commit_of as commit_asked, is_living as lives, is_voting as votes};
 ghost use Rattle.jsp_model.specs.Refusals.{joined_otherwise as crashed_since};
 
@@ -11,27 +11,14 @@ use jsp_model::{Commit, Joined, Transaction};
 pub fn transaction_of(state: &Core, x: u64) -> Option<&Transaction>
     ensures { option_copied result ≡ transaction_named state.now x }
 {
-    find_transaction(state.transactions.as_slice(), x)
-}
-
-fn find_transaction(transactions: &[Transaction], x: u64) -> Option<&Transaction>
-    ensures { option_copied result ≡ find (λ t. t.number == x) transactions.now }
-{
-    transactions.iter().find(|t| t.number == x)
-}
-
-/// The place of the transaction of this number among these.
-pub fn place_of_transaction(transactions: &[Transaction], x: u64) -> Option<usize>
-    ensures { result ≡ position (λ t. t.number == x) transactions.now }
-{
-    transactions.iter().position(|t| t.number == x)
+    state.transactions.get(x)
 }
 
 /// How the space joined the transaction, if it did.
 pub fn joined_at(state: &Core, x: u64, space: u64) -> Option<&Joined>
     ensures { option_copied result ≡ joined_of_space state.now x space }
 {
-    match find_transaction(state.transactions.as_slice(), x) {
+    match transaction_of(state, x) {
         None => None,
         Some(transaction) => find_joined(transaction.joined.as_slice(), space),
     }

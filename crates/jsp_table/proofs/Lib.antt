@@ -2,3 +2,4 @@ pub mod Rising
 pub mod Standing
 pub mod Finding
 pub mod Changing
+pub mod Places

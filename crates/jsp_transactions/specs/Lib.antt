@@ -1,5 +1,4 @@
 pub mod Joining
 pub mod Owing
 pub mod Writing
-pub mod Voting
 pub mod Resetting

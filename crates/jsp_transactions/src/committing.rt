@@ -51,7 +51,7 @@ fn owe_published(alloc: Global, state: &mut Core, x: u64) -> Result<(), NoMemory
     ensures ok { OnOk result (state.new ≡ with_news state.old x) }
     ensures err { OnErr result (state.new ≡ state.old) }
 {
-    if state.registrations.len() == 0 {
+    if state.registrations.is_empty() {
         return Ok(());
     }
     let published = state.rows.published(alloc, x)?;

@@ -1,12 +1,12 @@
 //! A space is reset. Nothing here takes memory.
-ghost use Rattle.std.specs.Prelude.{◌≡◌, ◌==◌, ◌-◌, ◌^◌, nat_le, not, filter, IsTrue};
+ghost use Rattle.std.specs.Prelude.{◌≡◌, ◌-◌, ◌^◌, nat_le, IsTrue};
 ghost use Rattle.std.specs.List.{list_all};
 ghost use Rattle.jsp_model.specs.Changes.{reset as after_reset};
 ghost use Rattle.jsp_transactions.specs.Resetting.{counted};
 ghost use Rattle.jsp_model.specs.declared.limits.TheConstants.{LAST_CRASH_COUNT};
 
 use jsp_core::Core;
-use jsp_model::{MatchSet, Space};
+use jsp_model::Space;
 
 /// The space starts anew, as after a crash (this profile's own): its rows, registrations and match
 /// sets go, and the requests under a transaction that wait there; those without one go on waiting.
@@ -25,7 +25,7 @@ pub fn reset(state: &mut Core, space: u64)
     let blocked = &mut state.blocked;
     blocked.clear(space);
     let sets = &mut state.sets;
-    drop_sets(&mut sets.items, space);
+    sets.clear(space);
 }
 
 fn count_crash(spaces: &mut [Space], space: u64)
@@ -37,10 +37,4 @@ fn count_crash(spaces: &mut [Space], space: u64)
         let found = &mut spaces[place];
         found.crash_count += 1;
     }
-}
-
-fn drop_sets(sets: &mut Vec<MatchSet>, space: u64)
-    ensures { sets.new.items ≡ filter (λ m. not (m.space == space)) sets.old.items }
-{
-    sets.retain(|m| !(m.space == space));
 }

@@ -1,10 +1,9 @@
 //! The votes of joined spaces. Nothing here takes memory.
-ghost use Rattle.std.specs.Prelude.{◌≡◌, map};
+ghost use Rattle.std.specs.Prelude.{◌≡◌};
 ghost use Rattle.jsp_model.specs.Changes.{cast as after_cast, cast_vote as after_vote, vote_of as voted, has_changed as changes};
-ghost use Rattle.jsp_transactions.specs.Voting.{voting, voting_in};
 
 use jsp_core::Core;
-use jsp_model::{Joined, Transaction, Vote};
+use jsp_model::{Joined, Vote};
 use jsp_state::{crash_count, joined_at};
 
 /// The space votes, if it joined the transaction: to abort where it was reset since, to commit with
@@ -29,7 +28,7 @@ fn cast(state: &mut Core, x: u64, joined: Joined)
     let rows = &mut state.rows;
     rows.release(vote, x, joined.space);
     let transactions = &mut state.transactions;
-    set_votes(&mut transactions.items, x, joined.space, vote);
+    transactions.vote(x, joined.space, vote);
 }
 
 fn vote_of(state: &Core, x: u64, joined: Joined) -> Vote
@@ -48,37 +47,4 @@ fn has_changed(state: &Core, x: u64, space: u64) -> bool
     ensures { result ≡ changes state.now x space }
 {
     state.rows.has_changed(x, space)
-}
-
-fn set_votes(transactions: &mut [Transaction], x: u64, space: u64, vote: Vote)
-    ensures { transactions.new ≡ map (voting x space vote) transactions.old }
-{
-    'transactions: for transaction in transactions.iter_mut() {
-        set_vote(transaction, x, space, vote);
-    }
-}
-
-fn set_vote(transaction: &mut Transaction, x: u64, space: u64, vote: Vote)
-    ensures { transaction.new ≡ voting x space vote transaction.old }
-{
-    if transaction.number == x {
-        let joined = &mut transaction.joined;
-        vote_in(&mut joined.items, space, vote);
-    }
-}
-
-fn vote_in(joined: &mut [Joined], space: u64, vote: Vote)
-    ensures { joined.new ≡ map (voting_in space vote) joined.old }
-{
-    'joined: for one in joined.iter_mut() {
-        vote_at(one, space, vote);
-    }
-}
-
-fn vote_at(joined: &mut Joined, space: u64, vote: Vote)
-    ensures { joined.new ≡ voting_in space vote joined.old }
-{
-    if joined.space == space {
-        joined.vote = Some(vote);
-    }
 }

@@ -1,3 +1,2 @@
 pub mod Seeking
-pub mod Placed
 pub mod Least

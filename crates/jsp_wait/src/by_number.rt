@@ -1,14 +1,18 @@
 //! The keys of requests that wait.
-ghost use Rattle.std.specs.Prelude.{◌≡◌, ◌<◌, length, slice_index, option_copied};
+ghost use Rattle.std.specs.Prelude.{◌≡◌, map, slice_index};
 ghost use Rattle.jsp_model.specs.declared.state.Blocked.{Blocked as OfBlocked};
 ghost use Rattle.jsp_lease.specs.declared.item.Rank.TheVariants.{Blocked as OfRank};
-ghost use Rattle.jsp_wait.specs.Sought.{session_key, transaction_key, under_key, if_key, any_key, caller_key, under_or, if_or, first_value, fields_key, template_key, request_keys};
+ghost use Rattle.jsp_keyed.specs.Templates.{template_key};
+ghost use Rattle.jsp_wait.specs.Sought.{under_key, if_key, caller_key, under_or, if_or, request_keys};
 
-use jsp_keyed::{Keyed, Keying, key_of_field, key_of_number};
+use crate::scanned::copy_request;
+use jsp_keyed::{
+    Keyed, Keying, key_of_number, key_of_session, key_of_template, key_of_transaction,
+};
 use jsp_model::{Blocked, Rank};
 use jsp_sight::is_if;
 use jsp_table::Numbering;
-use jsp_types::{Template, Text, Value};
+use jsp_types::NoMemory;
 
 /// Requests go by their numbers. Each is named under its session, its transaction, what its form waits
 /// for, and under one key for each of its templates: the first value that it asks for.
@@ -48,10 +52,13 @@ impl Keying<Blocked> for ByNumber {
     fn rank() -> Rank {
         Rank::Blocked
     }
+
+    fn copy(request: &Blocked) -> Result<Blocked, NoMemory> {
+        copy_request(request)
+    }
 }
 
 fn key_at(seed: u64, request: &Blocked, place: usize) -> u64
-    requires { place < length (request_keys seed request.now) }
     ensures { result ≡ slice_index (request_keys seed request.now) place }
 {
     match place {
@@ -59,11 +66,17 @@ fn key_at(seed: u64, request: &Blocked, place: usize) -> u64
         1 => key_of_caller(seed, request),
         2 => key_if_under(seed, request),
         3 => key_if_held(seed, request),
-        _ => key_of_template(
-            seed,
-            request.space,
-            &request.templates.as_slice()[place - 4],
-        ),
+        _ => key_of_place(seed, request, place - 4),
+    }
+}
+
+/// The key of the template at this place, and 0 past the last.
+fn key_of_place(seed: u64, request: &Blocked, place: usize) -> u64
+    ensures { result ≡ slice_index (map (template_key seed request.now.space) request.now.templates) place }
+{
+    match request.templates.as_slice().get(place) {
+        Some(template) => key_of_template(seed, request.space, template),
+        None => 0,
     }
 }
 
@@ -96,18 +109,6 @@ fn key_if_held(seed: u64, request: &Blocked) -> u64
     }
 }
 
-pub(crate) fn key_of_session(seed: u64, session: u64) -> u64
-    ensures { result ≡ session_key seed session }
-{
-    key_of_number(seed, 4, session)
-}
-
-pub(crate) fn key_of_transaction(seed: u64, x: u64) -> u64
-    ensures { result ≡ transaction_key seed x }
-{
-    key_of_number(seed, 5, x)
-}
-
 pub(crate) fn key_of_under(seed: u64, space: u64) -> u64
     ensures { result ≡ under_key seed space }
 {
@@ -118,34 +119,4 @@ pub(crate) fn key_of_if(seed: u64, space: u64) -> u64
     ensures { result ≡ if_key seed space }
 {
     key_of_number(seed, 7, space)
-}
-
-pub(crate) fn key_of_any(seed: u64, space: u64) -> u64
-    ensures { result ≡ any_key seed space }
-{
-    key_of_number(seed, 8, space)
-}
-
-fn key_of_template(seed: u64, space: u64, template: &Template) -> u64
-    ensures { result ≡ template_key seed space template.now }
-{
-    match template {
-        Template::Any => key_of_any(seed, space),
-        Template::Like(like) => key_of_fields(seed, space, like.fields.as_slice()),
-    }
-}
-
-fn key_of_fields(seed: u64, space: u64, fields: &[(Text, Value)]) -> u64
-    ensures { result ≡ fields_key seed space fields.now }
-{
-    match value_asked(fields) {
-        None => key_of_any(seed, space),
-        Some(field) => key_of_field(seed, space, field.0.as_str(), &field.1),
-    }
-}
-
-fn value_asked(fields: &[(Text, Value)]) -> Option<&(Text, Value)>
-    ensures { option_copied result ≡ first_value fields.now }
-{
-    fields.iter().find(|f| !f.1.is_null())
 }

@@ -1,13 +1,13 @@
 //! Who may be given a row on offer, of requests that are found by hints.
-ghost use Rattle.std.specs.Prelude.{◌≡◌, ◌==◌, ◌&&◌, [], ◌∷◌, ◌<◌, length, slice_index, find, option_copied};
+ghost use Rattle.std.specs.Prelude.{◌≡◌, ◌==◌, ◌&&◌, [], ◌∷◌, find, option_copied};
 ghost use Rattle.std.specs.List.{list_any};
 ghost use Rattle.jsp_model.specs.Sight.{is_if as waits_for_conflict};
 ghost use Rattle.jsp_wait.specs.Sought.{if_key, row_keys};
 ghost use Rattle.jsp_wait.specs.Offered.{AskForIt, takes_one, waits_no_more};
 
-use crate::by_number::{ByNumber, Requests, key_of_any, key_of_if};
+use crate::by_number::{ByNumber, Requests, key_of_if};
 use crate::offer::Offer;
-use jsp_keyed::{Keys, key_of_field, lesser};
+use jsp_keyed::{Keys, entry_key, lesser};
 use jsp_model::{Blocked, Row};
 use jsp_sight::is_if;
 use jsp_table::Test;
@@ -36,19 +36,13 @@ impl<'a, O: Offer> Keys for Taker<'a, O> {
     }
 
     fn sought_key(&self, seed: u64, place: usize) -> u64 {
-        row_key(seed, self.row, place)
+        entry_key(
+            seed,
+            self.row.space,
+            self.row.entry.fields.as_slice(),
+            place,
+        )
     }
-}
-
-fn row_key(seed: u64, row: &Row, place: usize) -> u64
-    requires { place < length (row_keys seed row.now) }
-    ensures { result ≡ slice_index (row_keys seed row.now) place }
-{
-    if place == 0 {
-        return key_of_any(seed, row.space);
-    }
-    let field = &row.entry.fields.as_slice()[place - 1];
-    key_of_field(seed, row.space, field.0.as_str(), &field.1)
 }
 
 /// Whether a request at a space waited for a conflict that is gone.

@@ -6,5 +6,5 @@ pub grant-requires-clause-one : goal.grant-requires-clause-one
 grant-requires-clause-one c =
     rw c.as_slice-in-Grant.ensures (read_is_given_one c.args.state.now c.in-Grant.blocked c.in-Grant.rows c.requires.limits (rw c.in-Grant.is at c.requires.choice))
 
-pub tell-requires-clause-sequences : goal.tell-requires-clause-sequences
-tell-requires-clause-sequences c = sequences_fit c.args.state.now c.requires.limits
+pub tell-requires : goal.tell-requires
+tell-requires c = sequences_fit c.args.state.now c.requires.limits

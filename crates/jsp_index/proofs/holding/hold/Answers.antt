@@ -1,7 +1,7 @@
 use Rattle.std.proofs.Common.{◌≡◌, ◌<◌, true, length, arith, rules}
 use Rattle.std.proofs.lemmas.Grind.{common_steps}
 use Rattle.jsp_table.specs.Numbers.{names}
-use Rattle.jsp_index.specs.Hinted.{Keeps}
+use Rattle.jsp_keyed.specs.Kept.{Keeps}
 use Rattle.jsp_index.proofs.Holders.{one_reader_more}
 use Rattle.jsp_index.proofs.holding.hold.Goals as goal
 

@@ -1,7 +1,7 @@
 use Rattle.std.proofs.Common.{◌≡◌, ℕ, true, take}
 use Rattle.jsp_model.specs.Lookup.{contains}
 use Rattle.jsp_table.specs.Numbers.{names}
-use Rattle.jsp_index.specs.Hinted.{Keeps}
+use Rattle.jsp_keyed.specs.Kept.{Keeps}
 use Rattle.jsp_index.proofs.holding.hold_numbers.Given as goal
 
 abbrev pub invariant-numbers : goal.invariant-numbers

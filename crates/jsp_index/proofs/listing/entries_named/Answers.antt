@@ -11,8 +11,8 @@ rows-smaller g c =
     let passed = λ (r : Row). contains c.args.numbers.now r.number && g.P.Test.is_passed c.args.test.now r in
     let rows = c.args.rows.now in
     let r = c.in-Some.row.now in
-    let there : find (is_next passed c.rows.after) rows ≡ Some r = sym c.in-Some.ensures in
-    let next : filter (is_next passed c.rows.after) rows ≡ r ∷ filter (is_next passed r.number) rows = one_passes number passed c.rows.after rows r c.places.ensures.numbered.rising there in
+    let there : find (is_next passed c.rows.after) rows ≡ Some r = sym c.in-Some.ensures.found in
+    let next : filter (is_next passed c.rows.after) rows ≡ r ∷ filter (is_next passed r.number) rows = one_passes number passed c.rows.after rows r c.places.ensures.rising there in
     omega (arith, ap (λ (w : List Row). length w) next)
 
 pub rows-preserved : goal.rows-preserved
@@ -20,13 +20,13 @@ rows-preserved g c =
     let passed = λ (r : Row). contains c.args.numbers.now r.number && g.P.Test.is_passed c.args.test.now r in
     let rows = c.args.rows.now in
     let r = c.in-Some.row.now in
-    let there : find (is_next passed c.rows.after) rows ≡ Some r = sym c.in-Some.ensures in
-    let next : filter (is_next passed c.rows.after) rows ≡ r ∷ filter (is_next passed r.number) rows = one_passes number passed c.rows.after rows r c.places.ensures.numbered.rising there in
+    let there : find (is_next passed c.rows.after) rows ≡ Some r = sym c.in-Some.ensures.found in
+    let next : filter (is_next passed c.rows.after) rows ≡ r ∷ filter (is_next passed r.number) rows = one_passes number passed c.rows.after rows r c.places.ensures.rising there in
     listed_more number (λ (r : Row). r.entry) c.rows.entries c.add_entry.new.entries r (filter (is_next passed r.number) rows) (filter (is_next passed c.rows.after) rows) (map (λ (r : Row). r.entry) (filter (is_next passed 0) rows)) next c.rows.invariant c.in_ok-add_entry.ensures
 
 pub returns-clause-found : goal.returns-clause-found
 returns-clause-found g c =
     let passed = λ (r : Row). contains c.args.numbers.now r.number && g.P.Test.is_passed c.args.test.now r in
     let rows = c.args.rows.now in
-    let none : filter (is_next passed c.rows.after) rows ≡ [] = none_passes (is_next passed c.rows.after) rows (sym c.in_default.ensures) in
+    let none : filter (is_next passed c.rows.after) rows ≡ [] = none_passes (is_next passed c.rows.after) rows (sym c.in_default.ensures.found) in
     listed_all number (λ (r : Row). r.entry) c.rows.entries (filter (is_next passed c.rows.after) rows) (map (λ (r : Row). r.entry) (filter (is_next passed 0) rows)) none c.rows.invariant

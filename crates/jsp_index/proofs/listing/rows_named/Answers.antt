@@ -12,8 +12,8 @@ rows-smaller g c =
     let passed = λ (r : Row). contains c.args.numbers.now r.number && g.P.Test.is_passed c.args.test.now r in
     let rows = c.args.rows.now in
     let r = c.in-Some.row.now in
-    let there : find (is_next passed c.rows.after) rows ≡ Some r = sym c.in-Some.ensures in
-    let next : filter (is_next passed c.rows.after) rows ≡ r ∷ filter (is_next passed r.number) rows = one_passes number passed c.rows.after rows r c.places.ensures.numbered.rising there in
+    let there : find (is_next passed c.rows.after) rows ≡ Some r = sym c.in-Some.ensures.found in
+    let next : filter (is_next passed c.rows.after) rows ≡ r ∷ filter (is_next passed r.number) rows = one_passes number passed c.rows.after rows r c.places.ensures.rising there in
     omega (arith, ap (λ (w : List Row). length w) next)
 
 pub rows-preserved : goal.rows-preserved
@@ -21,8 +21,8 @@ rows-preserved g c =
     let passed = λ (r : Row). contains c.args.numbers.now r.number && g.P.Test.is_passed c.args.test.now r in
     let rows = c.args.rows.now in
     let r = c.in-Some.row.now in
-    let there : find (is_next passed c.rows.after) rows ≡ Some r = sym c.in-Some.ensures in
-    let next : filter (is_next passed c.rows.after) rows ≡ r ∷ filter (is_next passed r.number) rows = one_passes number passed c.rows.after rows r c.places.ensures.numbered.rising there in
+    let there : find (is_next passed c.rows.after) rows ≡ Some r = sym c.in-Some.ensures.found in
+    let next : filter (is_next passed c.rows.after) rows ≡ r ∷ filter (is_next passed r.number) rows = one_passes number passed c.rows.after rows r c.places.ensures.rising there in
     let rest = filter (is_next passed r.number) rows in
     let all = filter (is_next passed 0) rows in
     let so : c.rows.copies.items ++ map (λ (r : Row). r) (filter (is_next passed c.rows.after) rows) ≡ all = ap (λ w. c.rows.copies.items ++ w) (map_same (filter (is_next passed c.rows.after) rows)) ∙ c.rows.invariant in
@@ -32,6 +32,6 @@ pub returns-clause-found : goal.returns-clause-found
 returns-clause-found g c =
     let passed = λ (r : Row). contains c.args.numbers.now r.number && g.P.Test.is_passed c.args.test.now r in
     let rows = c.args.rows.now in
-    let none : filter (is_next passed c.rows.after) rows ≡ [] = none_passes (is_next passed c.rows.after) rows (sym c.in_default.ensures) in
+    let none : filter (is_next passed c.rows.after) rows ≡ [] = none_passes (is_next passed c.rows.after) rows (sym c.in_default.ensures.found) in
     let so : c.rows.copies.items ++ map (λ (r : Row). r) (filter (is_next passed c.rows.after) rows) ≡ filter (is_next passed 0) rows = ap (λ w. c.rows.copies.items ++ w) (map_same (filter (is_next passed c.rows.after) rows)) ∙ c.rows.invariant in
     listed_all number (λ (r : Row). r) c.rows.copies.items (filter (is_next passed c.rows.after) rows) (filter (is_next passed 0) rows) none so

@@ -1,4 +1,4 @@
-use Rattle.std.proofs.Common.{List, ◌≡◌, ◌++◌, ◌∷◌, [], ap, sym, subst, arith, rules}
+use Rattle.std.proofs.Common.{List, ◌≡◌, ◌++◌, ◌∷◌, [], sym, subst, arith, rules}
 use Rattle.std.proofs.lemmas.Grind.{common_steps}
 use Rattle.jsp_table.specs.Finding.{AreNumbered}
 use Rattle.jsp_keyed.proofs.Keeping.{numbered_more}

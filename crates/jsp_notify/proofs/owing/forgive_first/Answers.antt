@@ -1,6 +1,6 @@
 use Rattle.std.proofs.Common.{arith}
 use Rattle.jsp_notify.specs.Owing.{forgiven}
-use Rattle.jsp_sight.proofs.Places.{one_more}
+use Rattle.jsp_table.proofs.Places.{one_more}
 use Rattle.jsp_notify.proofs.owing.forgive_first.Goals as goal
 
 pub places-preserved : goal.places-preserved

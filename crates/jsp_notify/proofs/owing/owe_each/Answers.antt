@@ -1,5 +1,5 @@
 use Rattle.jsp_notify.specs.Owing.{owed, forgiven}
-use Rattle.jsp_sight.proofs.Places.{one_more, back}
+use Rattle.jsp_table.proofs.Places.{one_more, back}
 use Rattle.jsp_notify.proofs.Owed.{forgiven-owed}
 use Rattle.jsp_notify.proofs.owing.owe_each.Goals as goal
 

@@ -6,6 +6,6 @@ use Rattle.jsp_state.proofs.ends.due.Goals as goal
 pub returns : goal.returns
 returns c =
     due_is_seen c.args.state.now _ _ _ _ _ _ _ _ _ _ (ap (λ (st : State). st.time) c.state.view_is) (ap (λ (st : State). st.sets) c.state.view_is) (ap (λ (st : State). st.blocked) c.state.view_is) (ap (λ (st : State). st.registrations) c.state.view_is) (ap (λ (st : State). st.rows) c.state.view_is)
-    (rw c.as_slice.ensures at c.first_set-first.ensures) (rw c.due.ensures at c.soonest-first.ensures) c.first_transaction-first.ensures
-    (rw c.due-2.ensures at c.soonest-first-2.ensures)
-    (rw c.due-3.ensures at c.soonest.ensures)
+    c.due-2.ensures (rw c.due.ensures at c.soonest-first.ensures) (rw c.first_active.ensures at c.soonest-first-2.ensures)
+    (rw c.due-3.ensures at c.soonest-first-3.ensures)
+    (rw c.due-4.ensures at c.soonest.ensures)

@@ -1,5 +1,5 @@
 use Rattle.jsp_state.specs.Versions.{versioned}
-use Rattle.jsp_sight.proofs.Places.{one_more}
+use Rattle.jsp_table.proofs.Places.{one_more}
 use Rattle.jsp_state.proofs.sessions.set_versions.Goals as goal
 
 pub sessions-preserved : goal.sessions-preserved

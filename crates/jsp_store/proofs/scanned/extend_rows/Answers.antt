@@ -1,4 +1,4 @@
-use Rattle.jsp_sight.proofs.Places.{one_more}
+use Rattle.jsp_table.proofs.Places.{one_more}
 use Rattle.jsp_sight.specs.Rows.{row_ending}
 use Rattle.jsp_store.proofs.scanned.extend_rows.Goals as goal
 

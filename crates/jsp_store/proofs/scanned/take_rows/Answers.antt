@@ -1,5 +1,5 @@
 use Rattle.jsp_sight.specs.Rows.{taken_row}
-use Rattle.jsp_sight.proofs.Places.{one_more}
+use Rattle.jsp_table.proofs.Places.{one_more}
 use Rattle.jsp_store.proofs.scanned.take_rows.Goals as goal
 
 pub rows-preserved : goal.rows-preserved

@@ -1,6 +1,6 @@
 use Rattle.std.proofs.Common.{◌+◌}
 use Rattle.jsp_model.specs.declared.state.Space.{Space}
-use Rattle.jsp_sight.proofs.Places.{changed_at}
+use Rattle.jsp_table.proofs.Places.{changed_at}
 use Rattle.jsp_transactions.proofs.resetting.count_crash.Goals as goal
 
 pub returns-then-place-spaces : goal.returns-then-place-spaces

@@ -1,7 +1,6 @@
 use Rattle.std.proofs.Common.{◌≡◌, ℕ, ◌++◌, ◌∷◌, [], List, map, ap, sym, ◌∙◌, subst, arith, rules}
 use Rattle.std.specs.Prelude.{filter}
 use Rattle.std.proofs.lemmas.Grind.{common_steps}
-use Rattle.jsp_model.specs.declared.state.Blocked.{Blocked}
 use Rattle.jsp_keyed.specs.Finding.{is_next}
 use Rattle.jsp_keyed.proofs.Walking.{from_start, one_passes, none_passes, found_is_above, listed_more, listed_all}
 use Rattle.jsp_wait.specs.Waiting.{asker}

@@ -1,7 +1,7 @@
-use Rattle.std.proofs.Common.{◌≡◌, ◌++◌, [], ◌∷◌, ap, sym, ◌∙◌, take, arith, rules}
+use Rattle.std.proofs.Common.{◌≡◌, ◌++◌, [], ◌∷◌, ap, sym, ◌∙◌, arith, rules}
 use Rattle.std.proofs.lemmas.Grind.{common_steps}
 use Rattle.jsp_table.specs.Places.{living}
-use Rattle.jsp_wait.proofs.Placed.{living_more}
+use Rattle.jsp_keyed.proofs.Placed.{living_more}
 use Rattle.jsp_wait.proofs.keyed.copies_of.Goals as goal
 use Rattle.jsp_wait.proofs.keyed.copies_of.Goals.{in-Some+in_ok-copy_request+in_ok-push, in_default}
 

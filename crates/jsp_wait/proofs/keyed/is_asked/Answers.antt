@@ -1,9 +1,9 @@
-use Rattle.std.proofs.Common.{◌≡◌, ◌∙◌, ap, sym, ◌&&◌, Option, Some, None, Bool, true, rules}
-use Rattle.std.specs.Prelude.{is_some, option_copied, find, ◌==◌}
+use Rattle.std.proofs.Common.{◌≡◌, ◌∙◌, ap, ◌&&◌, rules}
+use Rattle.std.specs.Prelude.{is_some, option_copied, ◌==◌}
 use Rattle.jsp_model.specs.declared.state.Blocked.{Blocked}
 use Rattle.jsp_keyed.proofs.Walking.{start_find}
 use Rattle.jsp_wait.proofs.Least.{number}
-use Rattle.jsp_wait.proofs.Placed.{any_is}
+use Rattle.jsp_keyed.proofs.Placed.{any_is}
 use Rattle.jsp_wait.proofs.keyed.is_asked.Goals as goal
 
 pub returns : goal.returns

@@ -4,7 +4,7 @@ use Rattle.std.proofs.lemmas.Grind.{common_steps}
 use Rattle.jsp_model.specs.declared.state.Blocked.{Blocked}
 use Rattle.jsp_table.specs.Places.{living}
 use Rattle.jsp_wait.proofs.Least.{number}
-use Rattle.jsp_wait.proofs.Placed.{only_numbered}
+use Rattle.jsp_keyed.proofs.Placed.{only_numbered}
 use Rattle.jsp_wait.proofs.keyed.space_of.Goals as goal
 use Rattle.jsp_wait.proofs.keyed.space_of.Goals.{in-Some+in_ok-push, in_default}
 

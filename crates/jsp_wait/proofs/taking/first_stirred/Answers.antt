@@ -1,4 +1,4 @@
-use Rattle.std.proofs.Common.{◌≡◌, ◌&&◌, ◌||◌, List, option_copied, sym, ◌∙◌, subst}
+use Rattle.std.proofs.Common.{◌&&◌, ◌||◌, option_copied, sym, ◌∙◌, subst}
 use Rattle.std.specs.List.{list_any}
 use Rattle.jsp_model.specs.Sight.{is_if}
 use Rattle.jsp_keyed.specs.Finding.{IsLeast}

@@ -1,11 +1,11 @@
-use Rattle.std.proofs.Common.{◌≡◌, ℕ, ◌+◌, ◌<◌, List, length, take, option_copied, ap, sym, ◌∙◌, subst, arith}
-use Rattle.std.specs.Prelude.{slice_index, find}
+use Rattle.std.proofs.Common.{◌≡◌, ℕ, ◌+◌, ◌<◌, List, length, take, option_copied, sym, subst, arith}
+use Rattle.std.specs.Prelude.{slice_index}
 use Rattle.std.specs.List.{list_any}
 use Rattle.std.proofs.lemmas.List.{take_all}
 use Rattle.jsp_keyed.specs.Finding.{IsLeast}
 use Rattle.jsp_keyed.proofs.Least.{least_of_both, least_first}
 use Rattle.jsp_wait.specs.Offered.{takes_one}
-use Rattle.jsp_wait.proofs.Least.{number, takes_at, one_of_them, split_more, all_of_kind}
+use Rattle.jsp_wait.proofs.Least.{number, one_of_them, split_more, all_of_kind}
 use Rattle.jsp_wait.proofs.taking.first_taker.Goals as goal
 
 pub numbers-preserved : goal.numbers-preserved

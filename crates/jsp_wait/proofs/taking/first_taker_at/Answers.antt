@@ -1,4 +1,4 @@
-use Rattle.std.proofs.Common.{◌≡◌, ◌∙◌, sym, arith}
+use Rattle.std.proofs.Common.{◌∙◌, sym}
 use Rattle.jsp_keyed.proofs.Walking.{start_find}
 use Rattle.jsp_wait.proofs.Seeking.{asked_for}
 use Rattle.jsp_wait.proofs.Least.{number, asked_here, asked_at, not_asked, all_there, none_there}

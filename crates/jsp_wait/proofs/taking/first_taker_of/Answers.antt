@@ -1,4 +1,4 @@
-use Rattle.std.proofs.Common.{◌∙◌, sym}
+use Rattle.std.proofs.Common.{◌∙◌}
 use Rattle.jsp_keyed.proofs.Walking.{start_find}
 use Rattle.jsp_wait.proofs.Seeking.{asked_for}
 use Rattle.jsp_wait.proofs.Least.{number, asked_here, not_asked, none_passes_at_all}

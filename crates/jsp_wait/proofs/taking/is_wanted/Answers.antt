@@ -1,6 +1,6 @@
 use Rattle.std.proofs.Common.{◌≡◌, ◌∙◌, ap, rules}
 use Rattle.std.specs.Prelude.{is_some, option_copied}
-use Rattle.jsp_wait.proofs.Placed.{any_is}
+use Rattle.jsp_keyed.proofs.Placed.{any_is}
 use Rattle.jsp_wait.proofs.taking.is_wanted.Goals as goal
 
 pub returns : goal.returns

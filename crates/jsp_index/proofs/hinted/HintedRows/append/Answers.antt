@@ -1,6 +1,6 @@
 use Rattle.std.proofs.Common.{sym, subst}
 use Rattle.jsp_index.specs.Holding.{IsHeld, AreHeld}
-use Rattle.jsp_index.proofs.Named.{All-append}
+use Rattle.jsp_keyed.proofs.Named.{All-append}
 use Rattle.jsp_index.proofs.Holders.{all_still_held}
 use Rattle.jsp_index.proofs.hinted.HintedRows.append.Goals as goal
 

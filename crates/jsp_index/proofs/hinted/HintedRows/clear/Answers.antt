@@ -5,4 +5,4 @@ use Rattle.jsp_index.proofs.Holders.{all_filtered}
 use Rattle.jsp_index.proofs.hinted.HintedRows.clear.Goals as goal
 
 pub invariant_of-self : goal.invariant_of-self
-invariant_of-self c = subst (AreHeld c.self.inside.holders) (sym c.clear_space.ensures) (all_filtered (IsHeld c.self.inside.holders) (λ (r : Row). not (eqb r.space c.args.space)) c.self.inside.rows c.self.invariant)
+invariant_of-self c = subst (AreHeld c.self.inside.holders) (sym c.clear.ensures) (all_filtered (IsHeld c.self.inside.holders) (λ (r : Row). not (eqb r.space c.args.space)) c.self.inside.rows c.self.invariant)

@@ -12,6 +12,6 @@ returns c =
     let rows = c.args.self.now in
     let p = offered c.args.classes.now c.args.blocked.now in
     let inside : List Row = c.self.inside.rows in
-    let up = c.count_found.ensures.numbered.positive in
+    let up = c.walk.ensures.numbered.positive in
     let all : filter (is_next p 0) inside ≡ filter p rows = from_start number p inside up ∙ ap (filter p) c.self.view_is in
-    c.count_found.ensures.found ∙ (ap (λ (w : List Row). length (take c.args.most w)) all ∙ length_mapped (λ (r : Row). r.number) c.args.most (filter p rows))
+    c.walk.ensures.count ∙ (ap (λ (w : List Row). length (take c.args.most w)) all ∙ length_mapped (λ (r : Row). r.number) c.args.most (filter p rows))

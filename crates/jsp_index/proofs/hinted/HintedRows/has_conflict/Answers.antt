@@ -1,24 +1,16 @@
-use Rattle.std.proofs.Common.{◌≡◌, Some, None, ap, sym, subst, ◌∙◌}
-use Rattle.std.specs.Prelude.{find}
+use Rattle.std.proofs.Common.{◌≡◌, ap, ◌∙◌, subst, rules}
+use Rattle.std.specs.Prelude.{find, is_some, option_copied}
 use Rattle.jsp_sight.specs.Rows.{held}
 use Rattle.jsp_index.specs.Finding.{number, is_next}
 use Rattle.jsp_index.specs.Numbered.{AreNumbered}
-use Rattle.jsp_index.proofs.Single.{none_any, some_any}
+use Rattle.jsp_index.proofs.Single.{any_found}
 use Rattle.jsp_keyed.proofs.Walking.{start_find}
 use Rattle.jsp_index.proofs.hinted.HintedRows.has_conflict.Goals as goal
 
-pub returns-in-None : goal.returns-in-None
-returns-in-None c =
+pub returns : goal.returns
+returns c =
     let rows = c.args.self.now in
     let p = held c.args.classes.now c.args.blocked.now in
     let up = (subst AreNumbered c.self.view_is c.first_above.ensures.numbered).positive in
-    let none : find p rows ≡ None = sym (start_find number p rows up) ∙ (ap (find (is_next p 0)) (sym c.self.view_is) ∙ sym c.in-None.ensures.found) in
-    sym (none_any p rows none)
-
-pub returns-in-Some : goal.returns-in-Some
-returns-in-Some c =
-    let rows = c.args.self.now in
-    let p = held c.args.classes.now c.args.blocked.now in
-    let up = (subst AreNumbered c.self.view_is c.first_above.ensures.numbered).positive in
-    let there : find p rows ≡ Some c.in-Some.field-0.now = sym (start_find number p rows up) ∙ (ap (find (is_next p 0)) (sym c.self.view_is) ∙ sym c.in-Some.ensures.found) in
-    sym (some_any p rows c.in-Some.field-0.now there)
+    let some : c.is_some.result ≡ is_some (option_copied c.first_above.result) = search rules in
+    some ∙ (ap is_some (c.first_above.ensures.found ∙ (ap (find (is_next p 0)) c.self.view_is ∙ start_find number p rows up)) ∙ any_found p rows)

@@ -1,4 +1,4 @@
-use Rattle.std.proofs.Common.{◌≡◌, true, false, not, ◌||◌, ◌==◌, [], List, ℕ, Some, None, ap, sym, subst, true≢false, ◌∙◌, arith, rules}
+use Rattle.std.proofs.Common.{◌≡◌, true, false, not, ◌||◌, [], Some, None, ap, sym, subst, true≢false, ◌∙◌, arith, rules}
 use Rattle.std.specs.Prelude.{nat_eq}
 use Rattle.std.specs.List.{list_all}
 use Rattle.std.specs.Option.{option_map_or}
@@ -7,7 +7,7 @@ use Rattle.std.proofs.lemmas.Grind.{common_steps}
 use Rattle.jsp_model.specs.declared.state.Row.{Row}
 use Rattle.jsp_model.specs.Lookup.{is_caller, contains as has}
 use Rattle.jsp_table.specs.Numbers.{contains}
-use Rattle.jsp_index.proofs.Narrowing.{not_named}
+use Rattle.jsp_keyed.proofs.Named.{not_named}
 use Rattle.jsp_index.proofs.Holders.{held_all}
 use Rattle.jsp_index.proofs.hinted.HintedRows.held_by.Goals as goal
 

@@ -4,7 +4,7 @@ use Rattle.std.proofs.lemmas.Grind.{common_steps}
 use Rattle.std.proofs.lemmas.List.{take_all}
 use Rattle.jsp_types.specs.declared.entry.Template.TheVariants.{Like}
 use Rattle.jsp_model.specs.declared.state.Row.{Row}
-use Rattle.jsp_index.specs.Hinted.{IsAmong}
+use Rattle.jsp_index.specs.Seen.{IsAmong}
 use Rattle.jsp_index.specs.Finding.{number, is_next, is_like, IsLeast}
 use Rattle.jsp_index.proofs.Narrowing.{is_like_of, is_like_and, class_more, of_seen}
 use Rattle.jsp_keyed.proofs.Least.{least_among, least_of_both}
@@ -41,5 +41,5 @@ returns g c =
     let all : take i seen ≡ seen = take_all i seen (first_of (omega (arith, c.classes-test.false), grind (arith, common_steps))) in
     let done : IsLeast p (is_like_of classes space like seen) rows found = subst (λ (w : List (List ℕ)). IsLeast p (is_like_of classes space like w) rows found) all c.classes.invariant in
     let classed : AllByRecursion (λ (r : Row). IsAmong seen r.entry.class) rows = subst (λ (w : List Row). AllByRecursion (λ (r : Row). IsAmong seen r.entry.class) w) c.self.view_is
-    (subst (λ (w : List (List ℕ)). AllByRecursion (λ (r : Row). IsAmong w r.entry.class) c.self.inside.table) (sym c.as_slice-class-items.ensures) c.self.invariant.classed) in
+    (subst (λ (w : List (List ℕ)). AllByRecursion (λ (r : Row). IsAmong w r.entry.class) c.self.inside.rows) (sym c.as_slice-class-items.ensures) c.self.invariant) in
     least_among number p (λ (r : Row). IsAmong seen r.entry.class) (is_like_of classes space like seen) (is_like classes space (Like like)) rows found classed (λ r a h. of_seen classes space like seen r a h) done

@@ -1,6 +1,5 @@
-use Rattle.std.proofs.Common.{◌≡◌, ℕ, ◌+◌, ◌<◌, List, length, Some, None, ap, sym, ◌∙◌, subst, arith, rules}
-use Rattle.std.specs.Prelude.{find, filter}
-use Rattle.std.proofs.lemmas.Grind.{common_steps}
+use Rattle.std.proofs.Common.{◌≡◌, ℕ, ◌+◌, length, ap, sym, subst, arith}
+use Rattle.std.specs.Prelude.{filter}
 use Rattle.jsp_keyed.specs.Finding.{is_next}
 use Rattle.jsp_keyed.proofs.Walking.{from_start, one_passes, none_passes, found_is_above, counted_more, counted_all}
 use Rattle.jsp_keyed.proofs.keyed.Keyed.count.Goals as goal

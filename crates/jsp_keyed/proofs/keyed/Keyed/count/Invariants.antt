@@ -1,4 +1,4 @@
-use Rattle.std.proofs.Common.{◌≡◌, ℕ, ◌+◌, ◌-◌, ◌^◌, ◌≤◌, length}
+use Rattle.std.proofs.Common.{◌≡◌, ◌+◌, ◌-◌, ◌^◌, ◌≤◌, length}
 use Rattle.std.specs.Prelude.{filter}
 use Rattle.jsp_keyed.specs.Finding.{is_next}
 use Rattle.jsp_keyed.proofs.keyed.Keyed.count.Given as goal

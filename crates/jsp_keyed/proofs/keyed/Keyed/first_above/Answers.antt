@@ -1,4 +1,4 @@
-use Rattle.std.proofs.Common.{◌≡◌, true, List, option_copied, subst}
+use Rattle.std.proofs.Common.{List, option_copied, subst}
 use Rattle.std.specs.List.{list_any}
 use Rattle.jsp_table.specs.Numbers.{names}
 use Rattle.jsp_table.specs.Finding.{AreNumbered}

@@ -1,5 +1,0 @@
-use Rattle.jsp_index.proofs.Ending.{IsPlacing}
-use Rattle.jsp_index.proofs.ends.place_all.Given as goal
-
-abbrev pub invariant-items : goal.invariant-items
-invariant-items l = IsPlacing l.fn.ends l.ends l.items l.item-index

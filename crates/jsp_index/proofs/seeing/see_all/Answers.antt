@@ -1,0 +1,8 @@
+use Rattle.jsp_index.proofs.Classes.{one_seen}
+use Rattle.jsp_index.proofs.seeing.see_all.Goals as goal
+
+pub rows-preserved : goal.rows-preserved
+rows-preserved c = record {
+  seen = one_seen c.rows.seen c.see_class.new.seen c.args.rows.now c.rows.row-index c.row-item.result c.rows-test.true c.row-item.is c.see_class.ensures.keeps c.in_ok-see_class.ensures.ok c.rows.invariant.seen;
+  keeps = λ k h. c.see_class.ensures.keeps k (c.rows.invariant.keeps k h);
+}

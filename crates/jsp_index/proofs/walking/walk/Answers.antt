@@ -1,0 +1,36 @@
+use Rattle.std.proofs.Common.{◌≡◌, ◌+◌, Some, None, List, length, map, ap, sym, ◌∙◌, arith}
+use Rattle.std.specs.Prelude.{find}
+use Rattle.std.specs.List.{last_or}
+use Rattle.jsp_model.specs.declared.state.Row.{Row}
+use Rattle.jsp_index.specs.Finding.{is_next}
+use Rattle.jsp_index.proofs.Walks.{walk_more, walk_over, length_more, last_is}
+use Rattle.jsp_index.proofs.walking.walk.Goals as goal
+
+pub returns-in_default-clause-count : goal.returns-in_default-clause-count
+returns-in_default-clause-count g c =
+    let passed = g.P.Test.is_passed c.args.test.now in
+    let rows = c.args.rows.now in
+    let none : find (is_next passed c.rows.after) rows ≡ None = sym c.in_default.ensures.found in
+    c.rows.invariant.counted ∙ ap (λ (w : List Row). length w) (walk_over passed rows c.args.from c.rows.after c.rows.count c.args.most none c.rows.invariant.rest (omega (arith, c.rows-test.true)))
+
+pub returns-in_default-clause-last : goal.returns-in_default-clause-last
+returns-in_default-clause-last g c =
+    let passed = g.P.Test.is_passed c.args.test.now in
+    let rows = c.args.rows.now in
+    let none : find (is_next passed c.rows.after) rows ≡ None = sym c.in_default.ensures.found in
+    c.rows.invariant.found ∙ ap (λ (w : List Row). last_or None (map (λ (r : Row). r.number) w)) (walk_over passed rows c.args.from c.rows.after c.rows.count c.args.most none c.rows.invariant.rest (omega (arith, c.rows-test.true)))
+
+pub rows-preserved : goal.rows-preserved
+rows-preserved g c =
+    let passed = g.P.Test.is_passed c.args.test.now in
+    let rows = c.args.rows.now in
+    let from = c.args.from in
+    let after = c.rows.after in
+    let r = c.in-Some.row.now in
+    let there : find (is_next passed after) rows ≡ Some r = sym c.in-Some.ensures.found in
+    let up = c.places.ensures.numbered.rising in
+    record {
+      rest = (walk_more passed rows from after c.rows.count r up there c.rows.invariant.rest).1;
+      counted = ap (λ n. n + 1) c.rows.invariant.counted ∙ length_more passed rows from after c.rows.count r up there c.rows.invariant.rest;
+      found = last_is passed rows from after c.rows.count r up there c.rows.invariant.rest;
+    }

@@ -1,0 +1,95 @@
+//! Those that pass a test change in place.
+ghost use Rattle.std.specs.Prelude.{◌≡◌, ◌&&◌, nat_le, ℕ, true, map, OnOk, OnErr};
+ghost use Rattle.jsp_keyed.specs.Finding.{is_sought};
+ghost use Rattle.jsp_keyed.specs.Changing.{HasSameKeys, IsUndone, where_passed};
+
+use crate::{Keyed, Keying, Keys, NoMemory};
+use jsp_table::{Change, Numbering, Test, TryChange};
+use std::marker::PhantomData;
+
+impl<T, K: Numbering<T> + Keying<T>> Keyed<T, K> {
+    /// Changes those that pass the test, which only things pass that have one of the keys that are
+    /// sought. They keep their numbers, keys and ends. Takes no memory.
+    pub fn change_all<P: Test<T> + Keys, C: Change<T>>(&mut self, test: &P, change: &C)
+        requires seeks { (seed : ℕ) (x : T) → P.is_passed test.now x ≡ true → is_sought (P.sought test.now seed) (K.keys_of seed x) ≡ true }
+        requires keeps { (x : T) → HasSameKeys K.number_of K.keys_of K.end_of x (C.changed change.now x) }
+        ensures { self.new ≡ map (where_passed (P.is_passed test.now) (C.changed change.now)) self.old }
+    {
+        // Which says that no number is 0.
+        let _ = self.places();
+        let mut last = 0;
+        'things: while let Some(thing) = self.first_above(last, test) {
+            last = K::number(thing);
+            self.change(last, change);
+        }
+    }
+
+    /// The same, each or none: where memory is refused the other change takes this one back.
+    pub fn try_change_all<P: Test<T> + Keys, C: TryChange<T>, U: Change<T>>(
+        &mut self,
+        test: &P,
+        change: &C,
+        undo: &U,
+    ) -> Result<(), NoMemory>
+        requires seeks { (seed : ℕ) (x : T) → P.is_passed test.now x ≡ true → is_sought (P.sought test.now seed) (K.keys_of seed x) ≡ true }
+        requires keeps { (x : T) → HasSameKeys K.number_of K.keys_of K.end_of x (C.changed change.now x) }
+        requires keeps_back { (x : T) → HasSameKeys K.number_of K.keys_of K.end_of x (U.changed undo.now x) }
+        requires undone { IsUndone (P.is_passed test.now) (C.changed change.now) (U.changed undo.now) }
+        ensures ok { OnOk result (self.new ≡ map (where_passed (P.is_passed test.now) (C.changed change.now)) self.old) }
+        ensures err { OnErr result (self.new ≡ self.old) }
+    {
+        // Which says that no number is 0.
+        let _ = self.places();
+        let mut last = 0;
+        'things: while let Some(thing) = self.first_above(last, test) {
+            let number = K::number(thing);
+            if let Err(e) = self.try_change(number, change) {
+                self.change_all(&UpTo::<K, P>::of(last, test), undo);
+                return Err(e);
+            }
+            last = number;
+        }
+        Ok(())
+    }
+}
+
+/// Whether its number is up to this one and it passes a test.
+#[derive(Drop)]
+struct UpTo<'a, K, P> {
+    last: u64,
+    test: &'a P,
+    numbering: PhantomData<K>,
+}
+
+impl<'a, K, P> UpTo<'a, K, P> {
+    fn of(last: u64, test: &'a P) -> Self
+        ensures last { result.last ≡ last }
+        ensures test { result.test.now ≡ test.now }
+    {
+        UpTo {
+            last,
+            test,
+            numbering: PhantomData,
+        }
+    }
+}
+
+impl<'a, T, K: Numbering<T>, P: Test<T>> Test<T> for UpTo<'a, K, P> {
+    ghost is_passed = { λ t x. nat_le (K.number_of x) t.last && P.is_passed t.test.now x };
+
+    fn passes(&self, thing: &T) -> bool {
+        K::number(thing) <= self.last && self.test.passes(thing)
+    }
+}
+
+impl<'a, K, P: Keys> Keys for UpTo<'a, K, P> {
+    ghost sought = { λ t seed. P.sought t.test.now seed };
+
+    fn sought_count(&self, seed: u64) -> usize {
+        self.test.sought_count(seed)
+    }
+
+    fn sought_key(&self, seed: u64, place: usize) -> u64 {
+        self.test.sought_key(seed, place)
+    }
+}

@@ -1,0 +1,41 @@
+//! What is named under a key. Nothing here takes memory.
+ghost use Rattle.std.specs.Prelude.{◌≡◌, ◌<◌, ◌≤◌, Bool, filter, find, length, option_copied};
+ghost use Rattle.std.specs.List.{AllByRecursion};
+ghost use Rattle.jsp_table.specs.Finding.{is_hit, AreNamed, AreNumbered};
+ghost use Rattle.jsp_keyed.specs.Finding.{is_next, HaveKey, IsLeast};
+
+use crate::{Key, Keyed, Keying};
+use jsp_table::{Numbering, Numbers, Test};
+
+impl<T, K: Numbering<T> + Keying<T>> Keyed<T, K> {
+    /// Numbers, among which are those of all things that have the key: of each kind of which all do.
+    pub fn numbers_under<Q: Key>(&self, key: &Q) -> &Numbers
+        ensures { (kind : T → Bool) → HaveKey K.keys_of (Q.key_by key.now) kind → AreNamed K.number_of kind result.now self.now }
+    {
+        let key = key.key(self.seed);
+        match self.hints.get(&key) {
+            None => &self.none,
+            Some(numbers) => numbers,
+        }
+    }
+
+    /// No fewer than the things that have the key, of any kind of which all do. None is looked at.
+    pub fn count_under<Q: Key>(&self, key: &Q) -> usize
+        ensures { (kind : T → Bool) → HaveKey K.keys_of (Q.key_by key.now) kind → length (filter kind self.now) ≤ result }
+    {
+        // Which says that the numbers rise.
+        let _ = self.places();
+        self.numbers_under(key).len()
+    }
+
+    /// The first thing above a number that is named and passes the test. Of a kind of which all are named
+    /// it is the first above the number that passes.
+    pub fn first_named<P: Test<T>>(&self, numbers: &Numbers, after: u64, test: &P) -> Option<&T>
+        ensures found { option_copied result ≡ find (is_hit K.number_of (P.is_passed test.now) numbers.now after) self.now }
+        ensures least { (kind : T → Bool) → AreNamed K.number_of kind numbers.now self.now → IsLeast K.number_of (is_next K.number_of (P.is_passed test.now) after) kind self.now (option_copied result) }
+        ensures rising { AreNumbered K.number_of self.now }
+        ensures positive { AllByRecursion (λ x. 0 < K.number_of x) self.now }
+    {
+        self.table.first_above(numbers, after, test)
+    }
+}

@@ -1,6 +1,0 @@
-use Rattle.jsp_sight.proofs.Places.{one_more}
-use Rattle.jsp_notify.specs.Registered.{registration_ending}
-use Rattle.jsp_notify.proofs.registrations.extend_each.Goals as goal
-
-pub registrations-preserved : goal.registrations-preserved
-registrations-preserved c = one_more (registration_ending c.args.number c.args.end) _ _ _ _ _ c.registrations-test.true c.registrations.invariant c.extend_registration.ensures

@@ -1,0 +1,9 @@
+-- Registrations, however they are kept.
+use Rattle.std.specs.Prelude.{List}
+use Rattle.jsp_model.specs.declared.state.Registration.{Registration}
+use Rattle.jsp_notify.specs.declared.registrations.Kept.{Kept}
+use Rattle.jsp_notify.specs.declared.registrations.Kept.TheVariants.{Scanned, Hinted}
+
+abbrev pub registrations_in : Kept → List Registration
+registrations_in (Scanned registrations) = registrations.items
+registrations_in (Hinted registrations) = registrations

@@ -1,0 +1,134 @@
+//! What is asked of registrations, and under which keys they are found.
+ghost use Rattle.std.specs.Prelude.{◌==◌, ◌&&◌, [], ◌∷◌, not, length};
+ghost use Rattle.jsp_model.specs.Lookup.{is_caller as calls};
+ghost use Rattle.jsp_keyed.specs.Keys.{session_key, transaction_key, space_key};
+ghost use Rattle.jsp_keyed.specs.Templates.{entry_keys};
+ghost use Rattle.jsp_notify.specs.Owing.{is_news as has_news};
+
+use crate::owing::is_news;
+use jsp_keyed::{Keys, entry_key, key_of_session, key_of_space, key_of_transaction};
+use jsp_model::{Registration, Row};
+use jsp_sight::is_caller;
+use jsp_table::Test;
+use jsp_types::Classes;
+
+/// Whether it is a session's.
+#[derive(Drop)]
+pub(crate) struct OfSession {
+    pub(crate) session: u64,
+}
+
+impl Test<Registration> for OfSession {
+    ghost is_passed = { λ t r. r.session == t.session };
+
+    fn passes(&self, registration: &Registration) -> bool {
+        registration.session == self.session
+    }
+}
+
+impl Keys for OfSession {
+    ghost sought = { λ t seed. session_key seed t.session ∷ [] };
+
+    fn sought_count(&self, _seed: u64) -> usize {
+        1
+    }
+
+    fn sought_key(&self, seed: u64, _place: usize) -> u64 {
+        key_of_session(seed, self.session)
+    }
+}
+
+/// Whether it is under a transaction.
+#[derive(Drop)]
+pub(crate) struct Under {
+    pub(crate) transaction: u64,
+}
+
+impl Test<Registration> for Under {
+    ghost is_passed = { λ t r. calls r.transaction t.transaction };
+
+    fn passes(&self, registration: &Registration) -> bool {
+        is_caller(registration.transaction, self.transaction)
+    }
+}
+
+impl Keys for Under {
+    ghost sought = { λ t seed. transaction_key seed t.transaction ∷ [] };
+
+    fn sought_count(&self, _seed: u64) -> usize {
+        1
+    }
+
+    fn sought_key(&self, seed: u64, _place: usize) -> u64 {
+        key_of_transaction(seed, self.transaction)
+    }
+}
+
+/// Whether it is at a space.
+#[derive(Drop)]
+pub(crate) struct At {
+    pub(crate) space: u64,
+}
+
+impl Test<Registration> for At {
+    ghost is_passed = { λ t r. r.space == t.space };
+
+    fn passes(&self, registration: &Registration) -> bool {
+        registration.space == self.space
+    }
+}
+
+impl Keys for At {
+    ghost sought = { λ t seed. space_key seed t.space ∷ [] };
+
+    fn sought_count(&self, _seed: u64) -> usize {
+        1
+    }
+
+    fn sought_key(&self, seed: u64, _place: usize) -> u64 {
+        key_of_space(seed, self.space)
+    }
+}
+
+/// Whether it is at a space and owed an event.
+#[derive(Drop)]
+pub(crate) struct OwedAt {
+    pub(crate) space: u64,
+}
+
+impl Test<Registration> for OwedAt {
+    ghost is_passed = { λ t r. r.space == t.space && not (length r.owed == 0) };
+
+    fn passes(&self, registration: &Registration) -> bool {
+        registration.space == self.space && !registration.owed.as_slice().is_empty()
+    }
+}
+
+/// Whether a row that the caller wrote is news to it.
+#[derive(Drop)]
+pub(crate) struct News<'a> {
+    pub(crate) classes: &'a Classes,
+    pub(crate) row: &'a Row,
+    pub(crate) caller: Option<u64>,
+}
+
+impl<'a> Test<Registration> for News<'a> {
+    ghost is_passed = { λ t r. has_news t.classes.now t.caller r t.row.now };
+
+    fn passes(&self, registration: &Registration) -> bool {
+        is_news(self.classes, self.caller, registration, self.row)
+    }
+}
+
+impl<'a> Keys for News<'a> {
+    ghost sought = { λ t seed. entry_keys seed t.row.now.space t.row.now.entry.fields };
+
+    fn sought_count(&self, _seed: u64) -> usize {
+        self.row.entry.fields.as_slice().len() + 1
+    }
+
+    fn sought_key(&self, seed: u64, place: usize) -> u64 {
+        let fields = self.row.entry.fields.as_slice();
+        entry_key(seed, self.row.space, fields, place)
+    }
+}

@@ -1,0 +1,76 @@
+//! The keys of registrations.
+ghost use Rattle.std.specs.Prelude.{◌≡◌, slice_index};
+ghost use Rattle.jsp_model.specs.declared.state.Registration.{Registration as OfRegistration};
+ghost use Rattle.jsp_lease.specs.declared.item.Rank.TheVariants.{Registration as OfRank};
+ghost use Rattle.jsp_notify.specs.Sought.{caller_key, registration_keys};
+
+use crate::scanned::copy_of;
+use jsp_keyed::{Keyed, Keying, key_of_session, key_of_space, key_of_template, key_of_transaction};
+use jsp_model::{Rank, Registration};
+use jsp_table::Numbering;
+use jsp_types::NoMemory;
+
+/// Registrations go by their numbers. Each is named under its session, its transaction, its space, and
+/// the first value that its template asks for.
+#[derive(Drop)]
+pub(crate) struct ByNumber {}
+
+/// Registrations, found by hints.
+pub(crate) type Found = Keyed<Registration, ByNumber>;
+
+impl Numbering<Registration> for ByNumber {
+    ghost number_of = { λ r. r.number };
+
+    fn number(registration: &Registration) -> u64 {
+        registration.number
+    }
+}
+
+impl Keying<Registration> for ByNumber {
+    ghost keys_of = { registration_keys };
+
+    ghost end_of = { λ r. r.end };
+
+    ghost rank_of = { OfRank };
+
+    fn count(_seed: u64, _registration: &Registration) -> usize {
+        4
+    }
+
+    fn key(seed: u64, registration: &Registration, place: usize) -> u64 {
+        key_at(seed, registration, place)
+    }
+
+    fn end(registration: &Registration) -> u64 {
+        registration.end
+    }
+
+    fn rank() -> Rank {
+        Rank::Registration
+    }
+
+    fn copy(registration: &Registration) -> Result<Registration, NoMemory> {
+        copy_of(registration)
+    }
+}
+
+fn key_at(seed: u64, registration: &Registration, place: usize) -> u64
+    ensures { result ≡ slice_index (registration_keys seed registration.now) place }
+{
+    match place {
+        0 => key_of_session(seed, registration.session),
+        1 => key_of_caller(seed, registration),
+        2 => key_of_space(seed, registration.space),
+        3 => key_of_template(seed, registration.space, &registration.template),
+        _ => 0,
+    }
+}
+
+fn key_of_caller(seed: u64, registration: &Registration) -> u64
+    ensures { result ≡ caller_key seed registration.now }
+{
+    match registration.transaction {
+        None => key_of_session(seed, registration.session),
+        Some(x) => key_of_transaction(seed, x),
+    }
+}

@@ -1,0 +1,75 @@
+//! Registrations that are owed an event, named by their spaces.
+ghost use Rattle.std.specs.Prelude.{◌≡◌, true, OnOk};
+ghost use Rattle.std.specs.List.{AllByRecursion};
+ghost use Rattle.jsp_table.specs.Numbers.{names};
+ghost use Rattle.jsp_keyed.specs.Kept.{Keeps, KeepsOthers};
+ghost use Rattle.jsp_notify.specs.Owing.{is_news};
+ghost use Rattle.jsp_notify.specs.Waiting.{IsNamed, AreNamed};
+
+use crate::asking::News;
+use crate::by_number::{ByNumber, Found};
+use jsp_model::Registration;
+use jsp_table::{Hints, Numbering, add_hint, drop_hint};
+use jsp_types::NoMemory;
+use std::alloc::Global;
+
+/// Names a registration at its space, if it is owed an event. Nothing goes from any list, on `Err` either.
+pub(crate) fn name_owed(
+    alloc: Global,
+    owed: &mut Hints,
+    registration: &Registration,
+) -> Result<(), NoMemory>
+    ensures ok { OnOk result (IsNamed owed.new registration.now) }
+    ensures keeps { Keeps owed.old owed.new }
+{
+    if registration.owed.as_slice().is_empty() {
+        return Ok(());
+    }
+    add_hint(alloc, owed, registration.space, registration.number)
+}
+
+/// Names each registration at its space to which the row is news. Nothing goes from any list, on `Err`
+/// either.
+pub(crate) fn name_listeners(
+    alloc: Global,
+    owed: &mut Hints,
+    registrations: &Found,
+    news: &News,
+) -> Result<(), NoMemory>
+    ensures ok { OnOk result (AllByRecursion (λ r. is_news news.now.classes.now news.now.caller r news.now.row.now ≡ true → names owed.new r.space r.number ≡ true) registrations.now) }
+    ensures keeps { Keeps owed.old owed.new }
+{
+    // Which says that no number is 0.
+    let _ = registrations.places();
+    let space = news.row.space;
+    let mut last = 0;
+    'registrations: while let Some(registration) = registrations.first_above(last, news) {
+        last = ByNumber::number(registration);
+        add_hint(alloc, owed, space, last)?;
+    }
+    Ok(())
+}
+
+/// A registration that is gone is named at its space no more. The others stay named. Takes no memory.
+pub(crate) fn forget_gone(owed: &mut Hints, space: Option<u64>, number: u64)
+    ensures { KeepsOthers number owed.old owed.new }
+{
+    if let Some(space) = space {
+        drop_hint(owed, space, number);
+    }
+}
+
+/// The registration of this number is named at its space no more if it is owed no event. Takes no memory.
+pub(crate) fn forget_told(owed: &mut Hints, registrations: &Found, number: u64)
+    requires { AreNamed owed.old registrations.now }
+    ensures { AreNamed owed.new registrations.now }
+{
+    // Which says that the numbers rise.
+    let _ = registrations.places();
+    let Some(registration) = registrations.get(number) else {
+        return;
+    };
+    if registration.owed.as_slice().is_empty() {
+        drop_hint(owed, registration.space, number);
+    }
+}
