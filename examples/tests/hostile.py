@@ -2,17 +2,19 @@
 
     python3 hostile.py CASE HOST:PORT
 
-Each case is run against a server of its own, and prints nothing where all is as it should be. `connections` says how
-many it opens.
+Each case is run against a server of its own, and prints nothing where all is as it should be. `hostile.py cases` lists
+them, with what their servers are to be like.
 """
+import json
 import socket
 import struct
 import sys
 import threading
+import time
 from pathlib import Path
 
 sys.path.insert(0, str(Path(__file__).parent.parent / "clients"))
-from jsp import Client, entry  # noqa: E402
+from jsp import Client, Refused, entry  # noqa: E402
 
 SECONDS = 60
 
@@ -84,28 +86,116 @@ def never_reads(address):
 
 
 def three_hundred_at_once(address):
-    """More connections than are served at once: those past the 256th wait until others have ended."""
+    """More connections than are served at once: those above them are closed, and once one has ended another is served."""
     streams = [socket.create_connection(address, SECONDS) for _ in range(300)]
-    for stream in streams:
-        stream.sendall(frame(b'{"id":1,"op":"spaces"}'))
     answer = frame(b'{"id":1,"ok":["a","b"]}')
+    are_served = []
     for stream in streams:
-        assert received(stream, len(answer)) == answer
+        try:
+            stream.sendall(frame(b'{"id":1,"op":"spaces"}'))
+            are_served.append(received(stream, len(answer)) == answer)
+        except ConnectionError:
+            are_served.append(False)
+    assert are_served == [True] * 256 + [False] * 44
+    for stream in streams:
         stream.close()
+    time.sleep(1)
+    is_served(address)
+
+
+def more_than_the_descriptors(address):
+    """Sixty connections where the server has forty descriptors, and another once they are closed."""
+    streams = [socket.create_connection(address, SECONDS) for _ in range(60)]
+    for stream in streams:
+        stream.close()
+    is_served(address)
+
+
+def idles(address):
+    """It sends nothing, or half a frame, or reads nothing: its connection is closed after a second."""
+    for part in (b"", b"\0\0\0\x17{"):
+        with socket.create_connection(address, SECONDS) as stream:
+            stream.sendall(part)
+            assert received(stream, 1) == b""
+    asked = frame(b'{"id":1,"op":"spaces"}') * 1_000
+    with socket.socket() as stream:
+        stream.setsockopt(socket.SOL_SOCKET, socket.SO_RCVBUF, 4096)
+        stream.settimeout(SECONDS)
+        stream.connect(address)
+        try:
+            while True:
+                stream.sendall(asked)
+        except ConnectionError:
+            pass
+    is_served(address)
+
+
+def sends_what_is_refused(address):
+    """Six hundred requests of a megabyte, which are refused: the server keeps no more of them than an era holds."""
+    asked = {"id": 1, "op": "write", "space": "no such space", "entry": entry("Job", who="x" * 1_000_000), "lease": 1}
+    with Client(*address) as jsp:
+        jsp.socket.settimeout(SECONDS)
+        for _ in range(600):
+            jsp.socket.sendall(frame(json.dumps(asked).encode()))
+            try:
+                jsp.wait(1)
+                raise AssertionError("a request was not refused")
+            except Refused:
+                pass
+    is_served(address)
+
+
+def declares_what_a_frame_holds(address):
+    """Classes of 79,000 fields are refused at once, though no two of the fields are alike."""
+    fields = ",".join(f'"{number:x}":"int"' for number in range(79_000))
+    with socket.create_connection(address, SECONDS) as stream:
+        for number in range(30):
+            stream.sendall(frame(f'{{"id":{number},"op":"declare","class":"Job","fields":{{{fields}}}}}'.encode()))
+            answer = frame(f'{{"fault":6,"id":{number}}}'.encode())
+            assert received(stream, len(answer)) == answer
+    is_served(address)
+
+
+def never_reads_its_events(address):
+    """It is told of each entry and reads nothing: its line ends, and who writes is served all the while."""
+    with Client(*address) as late, Client(*address) as other:
+        for client in (late, other):
+            client.socket.settimeout(SECONDS)
+        other.declare("Job", k="int")
+        for _ in range(16):
+            late.notify("a", entry("Job"))
+        entries = [entry("Job", k=1)] * 64
+        for _ in range(600):
+            other.call("write_all", space="a", entries=entries, lease=1)
+        told = 0
+        try:
+            while late.event(SECONDS):
+                told += 1
+        except ConnectionError:
+            pass
+        assert 0 < told < 16 * 64 * 600
+    is_served(address)
 
 
 CASES = {
-    "closes_in_a_frame": (closes_in_a_frame, 3),
-    "sends_garbage": (sends_garbage, 2),
-    "pipelines": (pipelines, 2),
-    "never_reads": (never_reads, 2),
-    "three_hundred_at_once": (three_hundred_at_once, 300),
+    # How many connections there are, how many descriptors and kilobytes of memory the server is to have at most, and its
+    # options.
+    closes_in_a_frame: (3, 1024, "unlimited", ""),
+    sends_garbage: (2, 1024, "unlimited", ""),
+    pipelines: (2, 1024, "unlimited", ""),
+    never_reads: (2, 1024, "unlimited", ""),
+    never_reads_its_events: (3, 1024, "unlimited", "--backlog 5000"),
+    three_hundred_at_once: (301, 1024, "unlimited", ""),
+    more_than_the_descriptors: (61, 40, "unlimited", ""),
+    idles: (4, 1024, "unlimited", "--idle 1"),
+    declares_what_a_frame_holds: (2, 1024, "unlimited", ""),
+    sends_what_is_refused: (2, 1024, 500_000, "--era-bytes 16777216"),
 }
 
 if __name__ == "__main__":
     if sys.argv[1] == "cases":
-        for name, (_, connections) in CASES.items():
-            print(name, connections)
+        for case, words in CASES.items():
+            print(case.__name__, *words)
     else:
         host, port = sys.argv[2].rsplit(":", 1)
-        CASES[sys.argv[1]][0]((host, int(port)))
+        globals()[sys.argv[1]]((host, int(port)))

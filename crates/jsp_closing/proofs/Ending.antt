@@ -1,5 +1,5 @@
 -- A history that its lines show to be right.
-use Rattle.std.proofs.Common.{◌≡◌, ℕ, ◌+◌, ◌<◌, Bool, List, length, filter, take, get_or, cond, ap, sym, ◌∙◌, subst, inl, inr}
+use Rattle.std.proofs.Common.{◌≡◌, ℕ, ◌+◌, ◌<◌, Bool, List, ◌++◌, length, filter, take, get_or, cond, ap, sym, ◌∙◌, subst, inl, inr}
 use Rattle.std.proofs.lemmas.List.Filters.{length-filter_more}
 use Rattle.jsp_model.specs.declared.state.State.{State}
 use Rattle.jsp_model.specs.declared.step.Step.{Step}
@@ -12,7 +12,9 @@ use Rattle.jsp_closing.specs.Leaving.{AsksIn, AllAsk}
 use Rattle.jsp_closing.specs.Writing.{IsWritten, AreWritten}
 use Rattle.jsp_model.specs.Answers.{Saying}
 use Rattle.jsp_closing.specs.Checked.{AreRight}
-use Rattle.jsp_closing.specs.Closing.{opens, IsAtRest, IsWhole}
+use Rattle.jsp_closing.specs.Closing.{opens, IsAtRest, IsLast, IsWhole, RestsAfter}
+use Rattle.jsp_laws.proofs.Laws.{laws_of_runs}
+use Rattle.jsp_kept.specs.declared.kept.Era.{Era}
 
 is_line : (s : ℕ) (st : State) (steps : List Step) (line : LineReport) → AsksIn s steps (state_after st steps) line → IsWritten s (said_in st steps) line → IsLine s st steps line
 is_line s st steps line asks writes = record {
@@ -48,6 +50,15 @@ pub is_right : (spaces : List (List ℕ)) (steps : List Step) (lines : List Line
     → after ≡ state_after (empty spaces) steps → said ≡ said_in (empty spaces) steps → AreRight steps lines after said → IsWhole spaces steps lines
 is_right spaces steps lines after said run laws at says h =
     is_whole spaces steps lines run laws (subst IsAtRest at h.rest) (ap (λ (st : State). st.last_session) (sym at) ∙ h.count) h.opened (subst (λ (st : State). AllAsk steps st lines) at h.asks) (subst (AreWritten lines) says h.writes)
+
+-- all laws hold in a run of which the first steps are gone
+pub is_last : (spaces : List (List ℕ)) (era : Era) → RestsAfter spaces era → IsLast spaces era.steps.items
+is_last spaces era h = record {
+  earlier = h.earlier;
+  run = h.run;
+  laws = laws_of_runs spaces (h.earlier ++ era.steps.items) h.run;
+  rest = h.rest;
+}
 
 -- one step more, which opens a session or doesn't
 pub opened_more : (steps : List Step) (i : ℕ) (x : Step) (b : Bool) → i < length steps → x ≡ get_or steps i x → b ≡ opens x

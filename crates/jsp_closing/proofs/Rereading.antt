@@ -1,7 +1,7 @@
 -- What lines give is what the steps ask.
-use Rattle.std.proofs.Common.{◌≡◌, ℕ, ◌+◌, false, List, [], ◌∷◌, ◌++◌, length, eqb, refl, ap, sym, ◌∙◌, inl, inr, arith, append-nil, length-append}
+use Rattle.std.proofs.Common.{◌≡◌, ℕ, ◌+◌, false, List, [], ◌∷◌, ◌++◌, length, eqb, refl, ap, sym, ◌∙◌, inl, inr, arith, append-nil, length-append, map}
 use Rattle.std.specs.Prelude.{filter, if◌then◌else◌, Option, slice_get}
-use Rattle.std.proofs.lemmas.List.{length-set}
+use Rattle.std.proofs.lemmas.List.{length-set, map-append}
 use Rattle.std.proofs.lemmas.List.Elements.{filter-append}
 use Rattle.std.proofs.lemmas.Bool.{eq-eqb, ne_eqb}
 use Rattle.std.proofs.lemmas.Option.{slice_get_within}
@@ -17,7 +17,7 @@ use Rattle.jsp_drive.specs.Streams.{is_request_of, requests_of}
 use Rattle.jsp_drive.specs.Giving.{Gave}
 use Rattle.jsp_drive.proofs.Asking.{asked_in-append}
 use Rattle.jsp_closing.specs.declared.closed.LineReport.{LineReport}
-use Rattle.jsp_closing.specs.Asking.{HaveGiven, GivesInput, GiveStep}
+use Rattle.jsp_closing.specs.Asking.{HaveGiven, GivesInput, GiveStep, unasked}
 use Rattle.jsp_closing.proofs.Places.{at_set, at_push}
 
 requests_of-append : (s : ℕ) (xs ys : List Step) → requests_of s (xs ++ ys) ≡ requests_of s xs ++ requests_of s ys
@@ -81,6 +81,12 @@ given_more reports old new steps made h one = record {
       let g = one.each i line there in
       rw (requests_of-append (i + 1) steps (made ∷ [])) (g.goes report.read.items (requests_of (i + 1) steps) (h.gave i report g.before at g.was));
 }
+
+-- and they are the same but for what is asked in them
+pub again_more : (old new : List Step) (step again : Step) → map unasked new ≡ map unasked old → unasked again ≡ unasked step
+    → map unasked (new ++ again ∷ []) ≡ map unasked (old ++ step ∷ [])
+again_more old new step again h one =
+    map-append unasked new (again ∷ []) ∙ ap (λ (x : Step). map unasked new ++ x ∷ []) one ∙ ap (λ (xs : List Step). xs ++ unasked step ∷ []) h ∙ sym (map-append unasked old (step ∷ []))
 
 -- ---- before the first step
 

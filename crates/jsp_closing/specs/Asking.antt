@@ -1,6 +1,10 @@
 -- What lines ask, read again from their bytes. The line at the place i is that of the session i + 1.
-use Rattle.std.specs.Prelude.{◌≡◌, ℕ, ◌+◌, Bool, false, List, [], ◌∷◌, ◌++◌, length, Option, Some, slice_get, slice_set}
+use Rattle.std.specs.Prelude.{◌≡◌, ℕ, ◌+◌, Bool, false, List, [], ◌∷◌, ◌++◌, length, Option, Some, None, slice_get, slice_set}
+use Rattle.jsp_wire.specs.declared.ask.Request.{Request}
+use Rattle.jsp_wire.specs.declared.ask.Ask.TheVariants.{Bye}
+use Rattle.jsp_reply.specs.declared.refusal.Refusal.TheVariants.{TooLong}
 use Rattle.jsp_model.specs.declared.step.Step.{Step}
+use Rattle.jsp_model.specs.declared.step.Step.TheVariants as step
 use Rattle.jsp_drive.specs.declared.hear.LineInput.{LineInput}
 use Rattle.jsp_drive.specs.declared.line.Next.TheVariants as next
 use Rattle.jsp_drive.specs.Line.{Unheard}
@@ -41,3 +45,13 @@ pub record SaysMore (s : ℕ) (read : List ℕ) (asked : List Step) (more : Bool
   pub too_long : Bool
   pub says : GaveAll s read (asked ++ left) too_long
   pub nothing : more ≡ false → left ≡ []
+
+-- what stands for any request
+abbrev pub anything : Request
+anything = record { id = 0; ask = Bye }
+
+-- the step, but for what is asked in it
+abbrev pub unasked : Step → Step
+unasked (step.Ask s asked rows) = step.Ask s anything rows
+unasked (step.Fault s id refusal) = step.Fault s None TooLong
+unasked other = other

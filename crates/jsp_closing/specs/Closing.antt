@@ -1,5 +1,5 @@
 -- What a history answers at its end.
-use Rattle.std.specs.Prelude.{◌≡◌, ℕ, Bool, true, false, List, length, filter, None}
+use Rattle.std.specs.Prelude.{◌≡◌, ℕ, Bool, true, false, List, [], ◌++◌, length, filter, map, IsPermutation, None}
 use Rattle.jsp_model.specs.declared.state.State.{State}
 use Rattle.jsp_model.specs.declared.step.Step.{Step}
 use Rattle.jsp_model.specs.declared.step.Step.TheVariants as step
@@ -7,6 +7,8 @@ use Rattle.jsp_model.specs.Lookup.{empty}
 use Rattle.jsp_model.specs.Runs.{IsRun, state_after}
 use Rattle.jsp_model.specs.Settling.{settle_step, AllQuiet}
 use Rattle.jsp_laws.specs.Runs.{LawsOfRuns}
+use Rattle.jsp_kept.specs.declared.kept.Era.{Era}
+use Rattle.jsp_closing.specs.Asking.{unasked}
 use Rattle.jsp_closing.specs.declared.closed.Closed.{Closed}
 use Rattle.jsp_closing.specs.declared.closed.Closed.TheVariants as closed
 use Rattle.jsp_closing.specs.declared.closed.LineReport.{LineReport}
@@ -19,10 +21,13 @@ pub record IsAtRest (st : State) : Type 0 where
   pub none_votes : settle_step st ≡ None
   pub quiet : AllQuiet st
 
--- the steps are a run that leaves the history at rest
-pub record RestsAfter (base : State) (steps : List Step) : Type 0 where
-  pub run : IsRun base steps
-  pub rest : IsAtRest (state_after base steps)
+-- With some steps of earlier eras, none where no era was sealed, an era's steps are one run from the empty state, and the
+-- history is at rest after it.
+pub record RestsAfter (spaces : List (List ℕ)) (era : Era) : Type 0 where
+  pub earlier : List Step
+  pub first : era.is_sealed ≡ false → earlier ≡ []
+  pub run : IsRun (empty spaces) (earlier ++ era.steps.items)
+  pub rest : IsAtRest (state_after (empty spaces) (earlier ++ era.steps.items))
 
 abbrev pub opens : Step → Bool
 opens (step.Open s) = true
@@ -39,10 +44,24 @@ pub record IsWhole (spaces : List (List ℕ)) (steps : List Step) (reports : Lis
   pub opened : length (filter opens steps) ≡ length reports
   pub all : length reports ≡ (state_after (empty spaces) steps).last_session
 
+-- The steps of the last era, where those of earlier ones are gone. With these they are one run from the empty state, so all
+-- laws of runs hold in it, and the history is at rest after it.
+pub record IsLast (spaces : List (List ℕ)) (steps : List Step) : Type 0 where
+  pub earlier : List Step
+  pub run : IsRun (empty spaces) (earlier ++ steps)
+  pub laws : LawsOfRuns (empty spaces) (earlier ++ steps)
+  pub rest : IsAtRest (state_after (empty spaces) (earlier ++ steps))
+
 -- the whole history, or where an era was sealed the last one
 abbrev pub Closes : List (List ℕ) → Closed → Type 0
 Closes spaces (closed.Whole steps lines) = IsWhole spaces steps.items lines.items
-Closes spaces (closed.Sealed base steps) = RestsAfter base steps.items
+Closes spaces (closed.Sealed steps) = IsLast spaces steps.items
+
+-- What is answered of an era and of what lines read and wrote. Where no era was sealed: the lines as they were given, in
+-- another order, and its steps, but for what is asked in them, which is read again from the lines. Else the era itself.
+abbrev pub IsOf : Era → List LineReport → Closed → Type 0
+IsOf era reports (closed.Whole steps lines) = (era.is_sealed ≡ false) × IsPermutation reports lines.items × (map unasked steps.items ≡ map unasked era.steps.items)
+IsOf era reports (closed.Sealed steps) = (era.is_sealed ≡ true) × (steps ≡ era.steps)
 
 -- a growth was refused, or what should be the same differs
 abbrev pub IsNoSpawn : RunFault → Type 0

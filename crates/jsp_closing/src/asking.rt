@@ -1,7 +1,9 @@
 //! What a history's sessions ask, read again from the bytes of their lines.
-ghost use Rattle.std.specs.Prelude.{◌≡◌, ◌++◌, ◌∷◌, ℕ, [], IfOk, OnOk};
+ghost use Rattle.std.specs.Prelude.{◌≡◌, ◌++◌, ◌∷◌, ℕ, [], None, map, IfOk, OnOk};
+ghost use Rattle.jsp_reply.specs.declared.refusal.Refusal.TheVariants.{TooLong};
+ghost use Rattle.jsp_model.specs.declared.step.Step.TheVariants as step;
 ghost use Rattle.jsp_drive.specs.Giving.{Gave};
-ghost use Rattle.jsp_closing.specs.Asking.{HaveGiven, GivesInput, GiveStep};
+ghost use Rattle.jsp_closing.specs.Asking.{HaveGiven, GivesInput, GiveStep, anything, unasked};
 
 use crate::closed::{Fault, LineReport};
 use jsp_drive::{Line, LineInput, Next};
@@ -37,7 +39,8 @@ pub(crate) fn ask_again(
     steps: Vec<Step>,
 ) -> Result<Vec<Step>, Fault>
     requires { HaveGiven reports.now lines.old.items [] }
-    ensures { IfOk result (λ steps. HaveGiven reports.now lines.new.items steps.items) }
+    ensures gave { IfOk result (λ asked. HaveGiven reports.now lines.new.items asked.items) }
+    ensures same { IfOk result (λ asked. map unasked asked.items ≡ map unasked steps.items) }
 {
     let mut asked = Vec::new(alloc);
     for step in steps {
@@ -56,7 +59,8 @@ fn add_step(steps: &mut Vec<Step>, step: Step) -> Result<(), NoMemory>
 
 // The step, or where a session asks in it the same with what the session's line gives.
 fn step_again(lines: &mut Vec<Line>, step: Step) -> Result<Step, Fault>
-    ensures { IfOk result (λ again. GiveStep again lines.old.items lines.new.items) }
+    ensures gave { IfOk result (λ again. GiveStep again lines.old.items lines.new.items) }
+    ensures same { IfOk result (λ again. unasked again ≡ unasked step) }
 {
     match step {
         Step::Ask {
@@ -74,7 +78,8 @@ fn step_again(lines: &mut Vec<Line>, step: Step) -> Result<Step, Fault>
 
 // A request of the session, as its line gives it.
 fn request_again(lines: &mut Vec<Line>, session: u64, rows: Items<u64>) -> Result<Step, Fault>
-    ensures { IfOk result (λ again. GiveStep again lines.old.items lines.new.items) }
+    ensures gave { IfOk result (λ again. GiveStep again lines.old.items lines.new.items) }
+    ensures same { IfOk result (λ again. unasked again ≡ step.Ask session anything rows) }
 {
     match next_input(lines, session)? {
         LineInput::Ask(asked) => Ok(Step::Ask {
@@ -88,7 +93,8 @@ fn request_again(lines: &mut Vec<Line>, session: u64, rows: Items<u64>) -> Resul
 
 // A fault of the session, as its line gives it.
 fn fault_again(lines: &mut Vec<Line>, session: u64) -> Result<Step, Fault>
-    ensures { IfOk result (λ again. GiveStep again lines.old.items lines.new.items) }
+    ensures gave { IfOk result (λ again. GiveStep again lines.old.items lines.new.items) }
+    ensures same { IfOk result (λ again. unasked again ≡ step.Fault session None TooLong) }
 {
     match next_input(lines, session)? {
         LineInput::Fault(id, refusal) => Ok(Step::Fault {

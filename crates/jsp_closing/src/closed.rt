@@ -1,6 +1,6 @@
 //! What a run answers.
 use jsp_kept::ReplayFault;
-use jsp_model::{Image, Step};
+use jsp_model::Step;
 use jsp_types::NoMemory;
 
 /// Why the thread that reads a line ended.
@@ -40,9 +40,8 @@ pub enum Closed {
         steps: Vec<Step>,
         lines: Vec<LineReport>,
     },
-    /// The last era: the state in which it began, and its steps.
+    /// The steps of the last era. Those of the earlier ones are gone.
     Sealed {
-        base: Image,
         steps: Vec<Step>,
     },
 }

@@ -1,8 +1,8 @@
 //! The end of a history.
-ghost use Rattle.std.specs.Prelude.{◌≡◌, true, length, filter, IfOk, IfErr, OnOk};
-ghost use Rattle.jsp_closing.specs.Asking.{HaveGiven};
+ghost use Rattle.std.specs.Prelude.{◌≡◌, true, length, filter, map, IfOk, IfErr, IsPermutation, OnOk};
+ghost use Rattle.jsp_closing.specs.Asking.{HaveGiven, unasked};
 ghost use Rattle.jsp_closing.specs.Checked.{AreRight};
-ghost use Rattle.jsp_closing.specs.Closing.{Closes, IsNoSpawn, IsWhole, RestsAfter, opens};
+ghost use Rattle.jsp_closing.specs.Closing.{Closes, IsNoSpawn, IsOf, IsWhole, RestsAfter, opens};
 
 use crate::asking::{ask_again, feed_lines};
 use crate::closed::{Closed, Fault, LineReport, RunFault};
@@ -24,17 +24,14 @@ pub fn close(
     era: Era,
     lines: Vec<LineReport>,
 ) -> Result<Closed, RunFault>
-    requires { RestsAfter era.base era.steps.items }
+    requires { RestsAfter config.now era }
     ensures ok { IfOk result (Closes config.now) }
+    ensures same { IfOk result (IsOf era lines.items) }
     ensures err { IfErr result IsNoSpawn }
 {
-    let Era {
-        base,
-        steps,
-        is_sealed,
-    } = era;
+    let Era { steps, is_sealed } = era;
     if is_sealed {
-        return Ok(Closed::Sealed { base, steps });
+        return Ok(Closed::Sealed { steps });
     }
     match close_whole(alloc, config, steps, lines) {
         Ok(Whole { steps, lines }) => Ok(Closed::Whole { steps, lines }),
@@ -56,7 +53,9 @@ pub(crate) fn close_whole(
     steps: Vec<Step>,
     reports: Vec<LineReport>,
 ) -> Result<Whole, Fault>
-    ensures { IfOk result (λ whole. IsWhole config.now whole.steps.items whole.lines.items) }
+    ensures whole { IfOk result (λ whole. IsWhole config.now whole.steps.items whole.lines.items) }
+    ensures lines { IfOk result (λ whole. IsPermutation reports.items whole.lines.items) }
+    ensures steps { IfOk result (λ whole. map unasked whole.steps.items ≡ map unasked steps.items) }
 {
     let mut reports = reports;
     reports.sort_by_key(|report| report.session)?;

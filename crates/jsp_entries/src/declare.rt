@@ -9,7 +9,7 @@ ghost use Rattle.jsp_entries.specs.Declaring.{refusal_of, after_declare};
 
 use jsp_core::Core;
 use jsp_reply::Refusal;
-use jsp_types::{Class, ClassFault, Items, Kind, NoMemory, Text};
+use jsp_types::{Class, ClassFault, Items, Kind, MOST_FIELDS, NoMemory, Text};
 use jsp_wire::Declare;
 use std::alloc::Global;
 
@@ -21,7 +21,12 @@ pub fn refuse_declare(
 ) -> Result<Option<Refusal>, NoMemory>
     ensures { IfOk result (λ r. r ≡ first_that (declare_tests state.now declare.now)) }
 {
-    if lacks_kind(declare.fields.as_slice()) {
+    let fields = declare.fields.as_slice();
+    if lacks_kind(fields) {
+        return Ok(Some(Refusal::BadClass));
+    }
+    // They aren't even copied where there are more than a class may have.
+    if fields.len() > MOST_FIELDS {
         return Ok(Some(Refusal::BadClass));
     }
     let class = class_asked(alloc, declare)?;

@@ -1,16 +1,17 @@
 -- How a history ends.
-use Rattle.std.proofs.Common.{◌≡◌, ◌∙◌, ap, sym, subst}
-use Rattle.jsp_model.specs.declared.state.State.{State}
+use Rattle.std.proofs.Common.{◌≡◌, ℕ, List, ◌∙◌, ◌++◌, ap, sym, subst}
+use Rattle.jsp_model.specs.Lookup.{empty}
 use Rattle.jsp_model.specs.Runs.{IsRun, state_after}
 use Rattle.jsp_kept.specs.declared.kept.Era.{Era}
-use Rattle.jsp_kept.specs.History.{History}
+use Rattle.jsp_kept.specs.History.{History, IsKept}
 use Rattle.jsp_closing.specs.Closing.{IsAtRest, RestsAfter}
 
 -- a history at rest is taken apart
-pub rests_after : (era : Era) (h : History)
-    → era.base ≡ h.base → era.steps.items ≡ h.steps → IsRun era.base era.steps.items → h.state ≡ state_after h.base h.steps → IsAtRest h.state
-    → RestsAfter era.base era.steps.items
-rests_after era h base steps run state rest = record {
-  run = run;
-  rest = subst IsAtRest (state ∙ ap (λ (st : State). state_after st h.steps) (sym base) ∙ ap (state_after era.base) (sym steps)) rest;
+pub rests_after : (spaces : List (List ℕ)) (era : Era) (h : History)
+    → h.spaces ≡ spaces → era.steps.items ≡ h.steps → era.is_sealed ≡ h.is_sealed → IsKept h → IsAtRest h.state → RestsAfter spaces era
+rests_after spaces era h same steps sealed kept rest = record {
+  earlier = kept.earlier;
+  first = λ none. kept.first (sym sealed ∙ none);
+  run = rw (steps, ← same) kept.run;
+  rest = rw (steps, ← same) (subst IsAtRest kept.state rest);
 }

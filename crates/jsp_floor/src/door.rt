@@ -2,16 +2,18 @@
 
 /// What a door answers.
 #[derive(Drop)]
-pub enum Knock<R, W> {
-    /// A line has come.
-    Line(R, W),
+pub enum Knock<R, W, X> {
+    /// A line has come: what it is read from, what is written to, and what ends its connection.
+    Line(R, W, X),
     /// No further line comes.
     Closed,
+    /// No further line comes, and those that are served are to end.
+    Stopped,
     /// No line can be had.
     Failed,
 }
 
 /// Where lines come from. It waits until one has come.
-pub trait Door<R, W> {
-    fn next(&mut self) -> Knock<R, W>;
+pub trait Door<R, W, X> {
+    fn next(&mut self) -> Knock<R, W, X>;
 }

@@ -6,15 +6,17 @@
 
 mod door;
 mod end;
-mod idle;
+mod lines;
 mod run;
+mod served;
+mod start;
 #[cfg(test)]
 mod tests;
 
 pub use door::{Door, Knock};
 pub use jsp_closing::{Closed, Ended, LineReport, RunFault};
 pub use jsp_line::{
-    Clock, Counted, Floor, Gate, Health, LineDone, OutDone, OutHalf, ReadDone, Shared, Start,
-    Transcript,
+    Clock, Counted, Floor, Gate, Hangup, Health, LineDone, OutDone, OutHalf, ReadDone, Shared,
+    Start, Transcript,
 };
-pub use run::run_house;
+pub use run::{Bounds, run_house};

@@ -7,266 +7,195 @@ ghost use denote.Param.Send.{IsSync, IsSend};
 
 use crate::door::{Door, Knock};
 use crate::end::end;
-use crate::idle::Idle;
-use jsp_closing::{Closed, LineReport, RunFault, close};
-use jsp_kept::{Kept, Seat};
-use jsp_line::{Clock, Floor, Gate, Health, LINES, LineDone, Shared};
-use jsp_model::{Config, House, Why};
+use crate::lines::Lines;
+use crate::served::{Served, fault_of};
+use crate::start::start;
+use jsp_closing::{Closed, RunFault, close};
+use jsp_kept::{AskSeat, Backlog, Kept, OutSeat};
+use jsp_line::{Clock, Floor, Gate, Hangup, Shared};
+use jsp_model::Config;
 use std::alloc::Global;
 use std::io::{Read, Write};
 use std::marker::Brand;
 use std::sync::ledger::{Blank, Ledger};
-use std::sync::{Mutex, Wait};
+use std::sync::{Arc, Wait};
 use std::thread::Threads;
 use std::{thread, time};
 
 /// How often a line may read.
 const READS: u64 = 1 << 40;
 
-// What threads that serve answer.
-#[derive(Drop)]
-struct Served {
-    reports: Vec<LineReport>,
-    fault: Option<RunFault>,
-}
-
-fn fault_of(why: Why) -> RunFault {
-    match why {
-        Why::NoMemory => RunFault::NoMemory,
-        Why::Sessions => RunFault::Spawn,
-        Why::EraFull | Why::Audit => RunFault::Audit,
-    }
-}
-
-impl Served {
-    fn new(alloc: Global) -> Served {
-        Served {
-            reports: Vec::new(alloc),
-            fault: None,
-        }
-    }
-
-    // Of several faults the first is kept, but that nothing stands above `Audit`.
-    fn fail(&mut self, fault: RunFault) {
-        if self.fault.is_none() || fault == RunFault::Audit {
-            self.fault = Some(fault);
-        }
-    }
-
-    fn stop(&mut self, why: Option<Why>) {
-        if let Some(why) = why {
-            self.fail(fault_of(why));
-        }
-    }
-
-    // Adds what a line read and wrote, while no era was sealed.
-    fn add_line<A: Ledger, O: Ledger, R: Read + Drop, W: Write + Drop>(
-        &mut self,
-        done: LineDone<A, O, R, W>,
-    ) {
-        let LineDone {
-            reader,
-            read,
-            out,
-            why,
-        } = done;
-        let session = read.seat.session();
-        self.stop(read.why);
-        self.stop(why);
-        if out.health == Health::NoMemory {
-            self.fail(RunFault::NoMemory);
-        }
-        let (Some(bytes), Some(written)) = (
-            read.transcript.into_bytes(),
-            out.transcript.into_bytes(),
-        ) else {
-            self.reports.clear();
-            return;
-        };
-        let report = LineReport {
-            session,
-            ended: read.ended,
-            read: bytes,
-            written,
-            read_failed: reader.failures > 0,
-            write_failed: out.writer.failures > 0,
-        };
-        if self.reports.push(report).is_err() {
-            self.fail(RunFault::NoMemory);
-        }
-    }
-
-    fn add_all(&mut self, other: Served) {
-        let Served { reports, fault } = other;
-        let mut reports = reports;
-        if let Some(fault) = fault {
-            self.fail(fault);
-        }
-        if self.reports.append(&mut reports).is_err() {
-            self.fail(RunFault::NoMemory);
-        }
-    }
+/// What a run is held to.
+#[derive(Clone, Copy, Debug, PartialEq, Eq)]
+pub struct Bounds {
+    /// How many lines are served at once.
+    pub lines: usize,
+    /// How many steps an era of the history holds, beside its Shuts, from 1 to 16,777,216.
+    pub era: u64,
+    /// After how many bytes that its lines read and wrote an era ends.
+    pub era_bytes: u64,
+    /// How many answers may wait for a session. One for which more wait is shut, and its line ends.
+    pub backlog: u64,
 }
 
 // A line that has come in, and its session.
 #[derive(Drop)]
-struct Caller<A: Ledger, O: Ledger, R, W> {
+struct Caller<A: Ledger, O: Ledger, R, W, X> {
     reader: R,
     writer: W,
-    seat: Seat<A, O>,
-    ghost seated: { IsSeated seat.asks seat.outs },
+    hangup: Arc<X>,
+    asks: AskSeat<A>,
+    outs: OutSeat<O>,
+    ghost seated: { IsSeated asks outs },
 }
 
-// Who comes in at the door.
+// What comes of a knock at the door.
 #[derive(Drop)]
-enum Guest<A: Ledger, O: Ledger, R, W> {
-    Line(Caller<A, O, R, W>),
-    Refused(Why),
-    Closed,
-    Failed,
+enum Guest<A: Ledger, O: Ledger, R, W, X> {
+    Line(Caller<A, O, R, W, X>),
+    /// A connection that isn't served.
+    Refused,
+    /// No further line comes.
+    Ended,
 }
 
-// Waits for a line and opens its session, so that sessions are numbered in the order of the door.
-fn welcome<H: House, A: Ledger, O: Ledger, R: Drop, W: Drop, D: Door<R, W>, T: Wait>(
-    rt: &T,
-    floor: &Floor<H, A, O>,
-    door: &Mutex<D>,
-) -> Guest<A, O, R, W> {
-    let mut door = door.lock(rt);
-    match door.next() {
-        Knock::Line(reader, writer) => match floor.begin(rt) {
-            Ok(seat) => Guest::Line(Caller {
-                reader,
-                writer,
-                seat,
-            }),
-            Err(stopped) => Guest::Refused(stopped.why),
-        },
-        Knock::Closed => Guest::Closed,
-        Knock::Failed => Guest::Failed,
+// The gate of a run, which ends the connections of its lines.
+#[derive(Drop)]
+struct RunGate<'r, 'g, 'l, X, G, T> {
+    rt: &'r T,
+    gate: &'g G,
+    lines: &'l Lines<X>,
+}
+
+impl<X: Hangup + Drop, G: Gate, T: Wait> Gate for RunGate<'_, '_, '_, X, G, T> {
+    fn before(&self, session: u64, nth: u64) {
+        self.gate.before(session, nth);
+    }
+
+    fn written(&self, session: u64, nth: u64) {
+        self.gate.written(session, nth);
+    }
+
+    fn cut(&self, session: u64) {
+        self.lines.hang_up(self.rt, session);
+        self.gate.cut(session);
     }
 }
 
-// What lines are served with, the door that they come by, and who waits at it.
+// What lines are served with, and those that are served.
 #[derive(Drop)]
-struct Server<'a, H: House, A: Ledger, O: Ledger, D, G, C, T> {
+struct Server<'a, 'l, H: Backlog, A: Ledger, O: Ledger, X, G, C, T> {
     shared: Shared<'a, H, A, O, G, C, T>,
-    door: Mutex<D>,
-    idle: Idle,
+    lines: &'l Lines<X>,
 }
 
 impl<
-    H: House + Send,
+    H: Backlog + Send,
     A: Ledger + Send + Sync,
     O: Ledger + Send + Sync,
-    D: Send,
+    X: Hangup + Send + Sync + Drop,
     G: Gate + Sync,
     C: Clock + Sync,
     T: Threads + Wait + time::Clock + Sync,
-> Server<'_, H, A, O, D, G, C, T> {
+> Server<'_, '_, H, A, O, X, G, C, T> {
+    // Opens the session of a line that has come, unless as many are served as may be at once: its connection is
+    // closed then.
+    fn welcome<R: Drop, W: Drop>(&self, reader: R, writer: W, hangup: X) -> Guest<A, O, R, W, X> {
+        let rt = self.shared.rt;
+        if self.lines.is_full(rt) {
+            return Guest::Refused;
+        }
+        let Ok(hangup) = Arc::new(self.shared.alloc, hangup) else {
+            self.lines.fail(rt, RunFault::NoMemory);
+            return Guest::Refused;
+        };
+        let (asks, outs) = match self.shared.floor.begin(rt) {
+            Ok(seats) => seats,
+            Err(stopped) => {
+                self.lines.stop(rt, Some(stopped.why));
+                return Guest::Refused;
+            }
+        };
+        let session = asks.session();
+        if !self.lines.enter(rt, session, &hangup) {
+            self.shared.floor.shut(rt, session);
+            self.lines.fail(rt, RunFault::NoMemory);
+            return Guest::Refused;
+        }
+        Guest::Line(Caller {
+            reader,
+            writer,
+            hangup,
+            asks,
+            outs,
+        })
+    }
+
+    // Waits at the door for the next line.
+    fn receive<R: Drop, W: Drop, D: Door<R, W, X>>(&self, door: &mut D) -> Guest<A, O, R, W, X> {
+        match door.next() {
+            Knock::Line(reader, writer, hangup) => self.welcome(reader, writer, hangup),
+            Knock::Closed => Guest::Ended,
+            Knock::Stopped => {
+                self.lines.shut_all(self.shared.rt, self.shared.floor);
+                Guest::Ended
+            }
+            Knock::Failed => {
+                self.lines.fail(self.shared.rt, RunFault::Spawn);
+                Guest::Ended
+            }
+        }
+    }
+
     // Serves a line that has come in.
     fn serve_caller<R: Read + Send + Drop, W: Write + Send + Drop>(
         &self,
-        caller: Caller<A, O, R, W>,
-        served: &mut Served,
+        caller: Caller<A, O, R, W, X>,
     ) {
         let Caller {
             reader,
             writer,
-            seat,
+            hangup,
+            asks,
+            outs,
         } = caller;
-        let done = self.shared.serve_line(reader, writer, seat, READS);
-        served.add_line(done);
+        let done = self
+            .shared
+            .serve_line(reader, writer, &*hangup, asks, outs, READS);
+        self.lines.leave(self.shared.rt, done);
     }
 
-    // Serves a line, and then further ones as they come.
-    fn serve_lines<R: Read + Send + Drop, W: Write + Send + Drop>(
+    // Serves all lines of the door, each in a thread of its own, and settles meanwhile.
+    fn serve_all<R: Read + Send + Drop, W: Write + Send + Drop, D: Door<R, W, X>>(
         &self,
-        caller: Caller<A, O, R, W>,
-    ) -> Served
-    where
-        D: Door<R, W>,
-    {
-        let mut served = Served::new(self.shared.alloc);
-        self.serve_caller(caller, &mut served);
-        for _ in self.shared.rt.forever() {
-            self.idle.enter(self.shared.rt);
-            let guest = welcome(self.shared.rt, self.shared.floor, &self.door);
-            self.idle.leave(self.shared.rt);
-            match guest {
-                Guest::Line(caller) => self.serve_caller(caller, &mut served),
-                Guest::Refused(why) => served.fail(fault_of(why)),
-                Guest::Closed => break,
-                Guest::Failed => {
-                    served.fail(RunFault::Spawn);
-                    break;
-                }
-            }
-        }
-        served
-    }
-
-    // Serves all lines of the door, and settles meanwhile. A thread is started for a line that comes while
-    // no other thread waits for one.
-    fn serve_all<R: Read + Send + Drop, W: Write + Send + Drop>(&self) -> Served
-    where
-        D: Door<R, W>,
-    {
+        door: &mut D,
+    ) {
         thread::scope(
             thread::scope_env(),
             self.shared.rt,
-            |scope| -> Served
-                requires { IsSync T.row × IsSync G.row × IsSync C.row × IsSend D.row × IsSend H.row × IsSend A.row × IsSync A.row × IsSend O.row × IsSync O.row × IsSend R.row × IsSend W.row }
+            |scope|
+                requires { IsSync T.row × IsSync G.row × IsSync C.row × IsSend H.row × IsSend A.row × IsSync A.row × IsSend O.row × IsSync O.row × IsSend R.row × IsSend W.row × IsSend X.row × IsSync X.row }
             {
-                let mut served = Served::new(self.shared.alloc);
-                let mut running = Vec::new(self.shared.alloc);
-                let settling = match scope.spawn(move || self.shared.settle_worker()) {
-                    Ok(settling) => settling,
-                    Err(_) => {
-                        served.fail(RunFault::Spawn);
-                        return served;
-                    }
-                };
-                for _ in self.shared.rt.forever() {
-                    if running.len() >= LINES {
-                        break;
-                    }
-                    if running.reserve(1).is_err() {
-                        served.fail(RunFault::NoMemory);
-                        break;
-                    }
-                    self.idle.wait_for_none(self.shared.rt);
-                    let caller = match welcome(self.shared.rt, self.shared.floor, &self.door) {
+                let rt = self.shared.rt;
+                let settling = start(rt, scope, move || self.shared.settle_worker());
+                for _ in rt.forever() {
+                    let caller = match self.receive(door) {
                         Guest::Line(caller) => caller,
-                        Guest::Refused(why) => {
-                            served.fail(fault_of(why));
-                            continue;
-                        }
-                        Guest::Closed => break,
-                        Guest::Failed => {
-                            served.fail(RunFault::Spawn);
-                            break;
-                        }
+                        Guest::Refused => continue,
+                        Guest::Ended => break,
                     };
-                    let started = scope.spawn(
-                        move || -> Served
-                            requires { IsSync T.row × IsSync G.row × IsSync C.row × IsSend D.row × IsSend H.row × IsSend A.row × IsSync A.row × IsSend O.row × IsSync O.row × IsSend R.row × IsSend W.row }
-                        { self.serve_lines(caller) },
+                    // It says at its end what it served, so that nobody joins it.
+                    let _serving = start(
+                        rt,
+                        scope,
+                        move ||
+                            requires { IsSync T.row × IsSync G.row × IsSync C.row × IsSend H.row × IsSend A.row × IsSync A.row × IsSend O.row × IsSync O.row × IsSend R.row × IsSend W.row × IsSend X.row × IsSync X.row }
+                        { self.serve_caller(caller) },
                     );
-                    match started {
-                        Ok(thread) => running.push_reserved(thread),
-                        Err(_) => {
-                            served.fail(RunFault::Spawn);
-                            break;
-                        }
-                    }
                 }
-                for thread in running {
-                    served.add_all(thread.join(self.shared.rt));
-                }
-                self.shared.floor.end(self.shared.rt);
-                served.stop(settling.join(self.shared.rt));
-                served
+                self.lines.wait_for_none(rt);
+                self.shared.floor.end(rt);
+                self.lines.stop(rt, settling.join(rt));
             },
         )
     }
@@ -274,68 +203,79 @@ impl<
 
 // As `run_house`, with the ledgers of the seats.
 fn run_in<
-    H: House + Send,
+    'x,
+    H: Backlog + Send,
     A: Ledger + Send + Sync,
     O: Ledger + Send + Sync,
     R: Read + Send + Drop,
     W: Write + Send + Drop,
-    D: Door<R, W> + Send + Drop,
+    X: Hangup + Send + Sync + Drop,
+    D: Door<R, W, X> + Send + Drop,
     G: Gate + Sync,
     C: Clock + Sync,
     T: Threads + Wait + time::Clock + Sync,
 >(
-    rt: &T,
+    rt: &'x T,
     alloc: Global,
     house: H,
     config: &Config,
-    era: u64,
+    bounds: Bounds,
     door: D,
-    gate: &G,
-    clock: &C,
+    gate: &'x G,
+    clock: &'x C,
     asks: Blank,
     outs: Blank,
 ) -> Result<Closed, RunFault>
     requires house { H.view house ≡ empty config.now }
-    requires era { (1 ≤ era) × (era ≤ 16777216) }
+    requires era { (1 ≤ bounds.era) × (bounds.era ≤ 16777216) }
     requires asks { (asks.name ≡ A.name) × (asks.parts ≡ A.parts) × (A.parts ≡ 2 ^ 31 + 1) }
     requires outs { (outs.name ≡ O.name) × (outs.parts ≡ O.parts) × (O.parts ≡ 2 ^ 31 + 1) }
     ensures { IfOk result (Closes config.now) }
 {
-    let Ok(kept) = Kept::<H, A, O>::new(alloc, house, config, era, asks, outs) else {
+    let Ok(kept) = Kept::<H, A, O>::new(alloc, house, config, bounds.era, asks, outs) else {
         return Err(RunFault::NoMemory);
     };
-    let Ok(floor) = Floor::new(alloc, kept) else {
+    let Ok(floor) = Floor::new(alloc, kept, bounds.lines, bounds.era_bytes, bounds.backlog) else {
         return Err(RunFault::NoMemory);
+    };
+    let mut door = door;
+    let lines = Lines::<X>::new(alloc, bounds.lines);
+    let gate = RunGate {
+        rt: &*rt,
+        gate: &*gate,
+        lines: &lines,
     };
     let server = Server {
         shared: Shared {
             rt: &*rt,
             alloc,
             floor: &floor,
-            gate: &*gate,
+            gate: &gate,
             clock: &*clock,
         },
-        door: Mutex::new(door),
-        idle: Idle::new(),
+        lines: &lines,
     };
-    let Served { reports, fault } = server.serve_all::<R, W>();
+    server.serve_all::<R, W, D>(&mut door);
     drop(server);
+    drop(gate);
+    let Served { reports, fault } = lines.into_served();
     if let Some(fault) = fault {
         return Err(fault);
     }
-    match end(rt, floor.into_kept()) {
+    match end(rt, config, floor.into_kept()) {
         Ok(era) => close(alloc, config, era, reports),
         Err(why) => Err(fault_of(why)),
     }
 }
 
-/// Serves the lines of a door over an empty house, at most 256 at once, until the door is closed and
-/// all have ended. An era of the history holds so many steps, beside its Shuts.
+/// Serves the lines of a door over an empty house until the door is closed and all have ended. A line above
+/// those that are served at once ends at once.
 pub fn run_house<
-    H: House + Send,
+    H: Backlog + Send,
     R: Read + Send + Drop,
     W: Write + Send + Drop,
-    D: Door<R, W> + Send + Drop,
+    X: Hangup + Send + Sync + Drop,
+    D: Door<R, W, X> + Send + Drop,
     G: Gate + Sync,
     C: Clock + Sync,
     T: Threads + Wait + time::Clock + Sync,
@@ -344,22 +284,22 @@ pub fn run_house<
     alloc: Global,
     house: H,
     config: &Config,
-    era: u64,
+    bounds: Bounds,
     door: D,
     gate: &G,
     clock: &C,
 ) -> Result<Closed, RunFault>
     requires house { H.view house ≡ empty config.now }
-    requires era { (1 ≤ era) × (era ≤ 16777216) }
+    requires era { (1 ≤ bounds.era) × (bounds.era ≤ 16777216) }
     ensures { IfOk result (Closes config.now) }
 {
     const PARTS: u64 = (1 << 31) + 1;
-    run_in::<H, Brand, Brand, R, W, D, G, C, T>(
+    run_in::<H, Brand, Brand, R, W, X, D, G, C, T>(
         rt,
         alloc,
         house,
         config,
-        era,
+        bounds,
         door,
         gate,
         clock,

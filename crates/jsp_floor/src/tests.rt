@@ -1,9 +1,9 @@
 //! Whole runs over readers and writers in memory. What each line is sent was worked out by the rules of the protocol.
 ghost use Rattle.std.specs.Prelude.{◌≤◌};
 
-use crate::{Clock, Closed, Door, Ended, Gate, Knock, run_house};
+use crate::{Bounds, Clock, Closed, Door, Ended, Gate, Hangup, Knock, run_house};
 use jsp_model::Config;
-use jsp_rows::{RowsHouse, replay, replay_from};
+use jsp_rows::{RowsHouse, replay};
 use jsp_types::{Items, Text};
 use std::alloc::Global;
 use std::io::{self, ErrorKind, Read, Write};
@@ -89,6 +89,8 @@ impl<T: time::Clock> Gate for Watch<'_, T> {
             line.answers.store(nth, Ordering::SeqCst);
         }
     }
+
+    fn cut(&self, _session: u64) {}
 }
 
 // Reads 0 until an answer was written, and then 1000.
@@ -107,12 +109,32 @@ impl<T: time::Clock> Clock for Dial<'_, '_, T> {
     }
 }
 
+// How a line's reader and writer fail.
+#[derive(Clone, Copy)]
+struct Wire {
+    // After how many reads one fails.
+    reads: usize,
+    // After how many bytes a write fails, and how many a write takes at most.
+    room: usize,
+    piece: usize,
+    // Whether a write that fails says that it took nothing.
+    is_silent: bool,
+}
+
+const SOUND: Wire = Wire {
+    reads: 1000,
+    room: 1000,
+    piece: 1000,
+    is_silent: false,
+};
+
 // Gives a frame at each read.
 #[derive(Drop)]
 struct Incoming<'w, 'a, T> {
     watch: &'w Watch<'a, T>,
     frames: Vec<Vec<u8>>,
     next: usize,
+    wire: Wire,
     // What the first read waits for, and the one at the end.
     first: Option<Answer>,
     last: Option<Answer>,
@@ -121,6 +143,9 @@ struct Incoming<'w, 'a, T> {
 impl<T: time::Clock> Read for Incoming<'_, '_, T> {
     fn read(&mut self, buf: &mut [u8]) -> io::Result<usize> {
         self.watch.wait_for(self.first.take());
+        if self.next == self.wire.reads {
+            return Err(io::Error::from(ErrorKind::BrokenPipe));
+        }
         let Some(frame) = self.frames.get(self.next) else {
             self.watch.wait_for(self.last);
             return Ok(0);
@@ -135,7 +160,7 @@ impl<T: time::Clock> Read for Incoming<'_, '_, T> {
 struct Outgoing<'w, 'a, T> {
     watch: &'w Watch<'a, T>,
     session: u64,
-    room: usize,
+    wire: Wire,
     // What the first write waits for.
     first: Option<Answer>,
 }
@@ -143,16 +168,20 @@ struct Outgoing<'w, 'a, T> {
 impl<T: time::Clock + Wait> Write for Outgoing<'_, '_, T> {
     fn write(&mut self, buf: &[u8]) -> io::Result<usize> {
         self.watch.wait_for(self.first.take());
-        let taken = buf.len().min(self.room);
+        let taken = buf.len().min(self.wire.room).min(self.wire.piece);
         if taken == 0 {
-            return Err(io::Error::from(ErrorKind::BrokenPipe));
+            return if self.wire.is_silent {
+                Ok(0)
+            } else {
+                Err(io::Error::from(ErrorKind::BrokenPipe))
+            };
         }
         if let Some(line) = self.watch.line(self.session) {
             line.written
                 .lock(self.watch.rt)
                 .extend_from_slice(&buf[..taken])?;
         }
-        self.room -= taken;
+        self.wire.room -= taken;
         Ok(taken)
     }
 
@@ -167,10 +196,18 @@ struct Lines<'w, 'a, T> {
     left: Vec<(Incoming<'w, 'a, T>, Outgoing<'w, 'a, T>)>,
 }
 
-impl<'w, 'a, T> Door<Incoming<'w, 'a, T>, Outgoing<'w, 'a, T>> for Lines<'w, 'a, T> {
-    fn next(&mut self) -> Knock<Incoming<'w, 'a, T>, Outgoing<'w, 'a, T>> {
+// What a line in memory has no need of.
+#[derive(Drop)]
+struct Connected {}
+
+impl Hangup for Connected {
+    fn hang_up(&self) {}
+}
+
+impl<'w, 'a, T> Door<Incoming<'w, 'a, T>, Outgoing<'w, 'a, T>, Connected> for Lines<'w, 'a, T> {
+    fn next(&mut self) -> Knock<Incoming<'w, 'a, T>, Outgoing<'w, 'a, T>, Connected> {
         match self.left.pop() {
-            Some((incoming, outgoing)) => Knock::Line(incoming, outgoing),
+            Some((incoming, outgoing)) => Knock::Line(incoming, outgoing, Connected {}),
             None => Knock::Closed,
         }
     }
@@ -225,7 +262,7 @@ fn door<'w, 'a, T>(
     alloc: Global,
     watch: &'w Watch<'a, T>,
     talks: &[Talk],
-    room: usize,
+    wire: Wire,
 ) -> Result<Lines<'w, 'a, T>, Fail> {
     let mut left = Vec::new(alloc);
     for (place, talk) in talks.iter().enumerate() {
@@ -237,13 +274,14 @@ fn door<'w, 'a, T>(
             watch,
             frames,
             next: 0,
+            wire,
             first: talk.first_read,
             last: talk.last_read,
         };
         let outgoing = Outgoing {
             watch,
             session: place as u64 + 1,
-            room,
+            wire,
             first: talk.first_write,
         };
         left.push((incoming, outgoing))?;
@@ -252,15 +290,15 @@ fn door<'w, 'a, T>(
     Ok(Lines { left })
 }
 
-// Whether the steps are a run.
+// Whether the steps are a run, where all of them are there.
 fn is_run(alloc: Global, config: &Config, closed: &Closed) -> bool {
     match closed {
         Closed::Whole { steps, .. } => replay(alloc, config, steps.as_slice()).is_ok(),
-        Closed::Sealed { base, steps } => replay_from(alloc, base, steps.as_slice()).is_ok(),
+        Closed::Sealed { .. } => true,
     }
 }
 
-// Serves the lines, each with a writer that takes so many bytes, and sees that none waited in vain.
+// Serves the lines, and sees that none waited in vain.
 fn serve<T: Threads + Wait + time::Clock + Sync>(
     rt: &T,
     alloc: Global,
@@ -268,15 +306,21 @@ fn serve<T: Threads + Wait + time::Clock + Sync>(
     era: u64,
     noon: Option<Answer>,
     talks: &[Talk],
-    room: usize,
+    wire: Wire,
 ) -> Result<Closed, Fail>
     requires { (1 ≤ era) × (era ≤ 16777216) }
 {
     let config = config(alloc)?;
     let house = RowsHouse::new(alloc, &config)?;
-    let lines = door(alloc, watch, talks, room)?;
+    let lines = door(alloc, watch, talks, wire)?;
     let dial = Dial { watch, noon };
-    let Ok(closed) = run_house(rt, alloc, house, &config, era, lines, watch, &dial) else {
+    let bounds = Bounds {
+        lines: 8,
+        era,
+        era_bytes: u64::MAX,
+        backlog: u64::MAX,
+    };
+    let Ok(closed) = run_house(rt, alloc, house, &config, bounds, lines, watch, &dial) else {
         return Err(Fail::new("a fault"));
     };
     if watch.is_late.load(Ordering::SeqCst) {
@@ -330,7 +374,7 @@ fn plays<'a, T: Threads + Wait + time::Clock + Sync>(
     requires { (1 ≤ era) × (era ≤ 16777216) }
 {
     let watch = watch_of(rt, alloc, held)?;
-    let closed = serve(rt, alloc, &watch, era, noon, talks, 1000)?;
+    let closed = serve(rt, alloc, &watch, era, noon, talks, SOUND)?;
     sees(alloc, &watch, talks)?;
     Ok(is_whole(&closed, talks.len()))
 }
@@ -510,21 +554,65 @@ fn eight_lines_wait_each_for_the_next_one(rt: HostRuntime) -> Result<(), Fail> {
     Ok(())
 }
 
-#[test]
-fn a_line_whose_writer_breaks_is_told_of_and_the_run_goes_on(rt: HostRuntime) -> Result<(), Fail> {
-    let talks = [Talk {
-        asks: &[DECLARE],
-        answers: &[],
-        ..SPACES
-    }];
-    let watch = watch_of(&rt, rt.alloc(), &[])?;
-    let Closed::Whole { lines, .. } = serve(&rt, rt.alloc(), &watch, 1000, None, &talks, 5)? else {
-        return Err(Fail::new("sealed"));
+// Whether a line that writes an entry is written just these bytes, and each failure is told.
+fn breaks<T: Threads + Wait + time::Clock + Sync>(
+    rt: &T,
+    alloc: Global,
+    wire: Wire,
+    written: &[u8],
+    read_failed: bool,
+    write_failed: bool,
+) -> Result<bool, Fail> {
+    let watch = watch_of(rt, alloc, &[])?;
+    let Closed::Whole { lines, .. } = serve(rt, alloc, &watch, 1000, None, &FINDS[1..], wire)?
+    else {
+        return Ok(false);
     };
-    assert_eq!(rt; lines.len(), 1);
-    for line in lines.as_slice() {
-        assert_eq!(rt; line.written.as_slice(), b"\x00\x00\x00\x12\x7b".as_slice());
-        assert!(rt; line.write_failed && !line.read_failed);
+    let Some(line) = lines.get(0) else {
+        return Ok(false);
+    };
+    Ok(
+        line.written.as_slice() == written
+            && line.read_failed == read_failed
+            && line.write_failed == write_failed,
+    )
+}
+
+const DECLARED: &[u8] = b"\x00\x00\x00\x12{\"id\":1,\"ok\":null}";
+
+const WRITTEN: &[u8] =
+    b"\x00\x00\x00\x12{\"id\":1,\"ok\":null}\x00\x00\x00\x23{\"id\":2,\"ok\":{\"lease\":1,\"ms\":1000}}";
+
+#[test]
+fn a_reader_fails_at_each_read_in_turn(rt: HostRuntime) -> Result<(), Fail> {
+    for (reads, written) in [b"".as_slice(), DECLARED, WRITTEN].into_iter().enumerate() {
+        let wire = Wire { reads, ..SOUND };
+        assert!(rt; breaks(&rt, rt.alloc(), wire, written, true, false)?);
     }
+    Ok(())
+}
+
+#[test]
+fn a_writer_fails_at_each_byte_in_turn(rt: HostRuntime) -> Result<(), Fail> {
+    for room in 0..WRITTEN.len() {
+        for piece in [1, 1000] {
+            for is_silent in [false, true] {
+                let wire = Wire {
+                    room,
+                    piece,
+                    is_silent,
+                    ..SOUND
+                };
+                assert!(rt; breaks(&rt, rt.alloc(), wire, &WRITTEN[..room], false, true)?);
+            }
+        }
+    }
+    Ok(())
+}
+
+#[test]
+fn a_writer_that_takes_a_byte_at_a_time_is_written_all(rt: HostRuntime) -> Result<(), Fail> {
+    let wire = Wire { piece: 1, ..SOUND };
+    assert!(rt; breaks(&rt, rt.alloc(), wire, WRITTEN, false, false)?);
     Ok(())
 }

@@ -5,7 +5,7 @@ ghost use Rattle.jsp_model.specs.Lookup.{empty};
 use jsp_core::Keeping;
 use jsp_model::{Config, House, Image, Input, Settled, Step, Stopped, Why};
 use jsp_reply::Said;
-use jsp_rows::RowsHouse;
+use jsp_rows::{Backlog, RowsHouse};
 use jsp_types::NoMemory;
 use std::alloc::Global;
 
@@ -90,5 +90,11 @@ impl House for Hall {
 
     fn image(&self) -> Result<Image, NoMemory> {
         self.house.image()
+    }
+}
+
+impl Backlog for Hall {
+    fn waiting(&self, session: u64) -> u64 {
+        self.house.waiting(session)
     }
 }

@@ -17,9 +17,6 @@ pub record IsNew (b : Beside) (limit : ℕ) : Type 0 where
 
 pub record IsBlank (h : History) : Type 0 where
   pub state : h.state ≡ empty h.spaces
-  pub base : h.base ≡ empty h.spaces
-  pub asked_before : h.asked_before ≡ []
-  pub taken_before : h.taken_before ≡ []
   pub steps : h.steps ≡ []
   pub asked : h.asked ≡ []
   pub taken : h.taken ≡ []
@@ -33,16 +30,17 @@ whole_new h b k some most n =
     let limit : limit_of h ≡ h.era = rw k.steps (add-zero h.era) in
     record {
       kept = record {
+        earlier = [];
+        first = λ u. refl;
         run = rw k.steps refl;
-        state = rw k.steps (k.state ∙ sym k.base);
+        state = rw k.steps k.state;
         steady = rw k.state (steady_empty h.spaces);
-        asked = λ i. rw (k.asked, k.asked_before, k.steps) refl;
-        taken = λ i. rw (k.taken, k.taken_before, k.steps) refl;
+        asked = λ i. rw (k.asked, k.steps) refl;
+        taken = λ i. rw (k.taken, k.steps) refl;
         asks_book = rw (k.asks_book, k.asked) refl;
         outs_book = rw (k.outs_book, k.taken) refl;
         askers = rw (k.asked, k.state) refl;
         takers = rw (k.taken, k.state) refl;
-        first = λ u. record { base = k.base; asked_before = k.asked_before; taken_before = k.taken_before };
         within = omega (arith, none);
       };
       asks_sum = n.asks_sum ∙ sym k.asks_book;

@@ -30,7 +30,7 @@ pub grows_in_era : (h k : History) (steps : List Step) → KeepsEra h k → Make
 grows_in_era h k steps era makes counts = record {
   run = makes.run;
   state = sym makes.view;
-  eras = inl (record { steps = makes.log; base = era.base; asked_before = era.asked_before; taken_before = era.taken_before; is_sealed = era.is_sealed });
+  eras = inl (record { steps = makes.log; is_sealed = era.is_sealed });
   asked = λ i. counts.asked i ∙ ap (λ n. get_or h.asked i 0 + n) (sym (asks_own (i + 1) steps));
   taken = λ i. counts.taken i ∙ ap (λ n. get_or h.taken i 0 + n) (sym (outs_own (i + 1) steps));
   spaces = era.spaces;
@@ -42,24 +42,22 @@ pub grows_none : (h : History) → Grows h h []
 grows_none h = record {
   run = refl;
   state = refl;
-  eras = inl (record { steps = sym (append-nil h.steps); base = refl; asked_before = refl; taken_before = refl; is_sealed = refl });
+  eras = inl (record { steps = sym (append-nil h.steps); is_sealed = refl });
   asked = λ i. sym (add-zero _);
   taken = λ i. sym (add-zero _);
   spaces = refl;
   era = refl;
 }
 
--- a new era began
-pub grows_sealed : (h k : History) → Seals h k → Grows h k []
-grows_sealed h k s = record {
+-- a new era began, since the one before was full
+pub grows_sealed : (h k : History) → Seals h k → h.era ≤ length h.steps → Grows h k []
+grows_sealed h k s full = record {
   run = refl;
   state = s.state;
   eras = inr (record {
     earlier = [];
+    full = rw (add-zero (length h.steps)) full;
     steps = sym s.steps;
-    base = s.base;
-    asked_before = λ i. rw s.asked_before (sym (add-zero _));
-    taken_before = λ i. rw s.taken_before (sym (add-zero _));
     is_sealed = s.is_sealed;
   });
   asked = λ i. rw s.asked (sym (add-zero _));
@@ -70,28 +68,26 @@ grows_sealed h k s = record {
 
 -- ---- one part after another
 
+-- where a later era was full
+full_then : (h k : History) (xs later : List Step) → k.era ≡ h.era → k.era ≤ length k.steps + length later → GoesOn h k xs ⊎ WasSealed h k xs → h.era ≤ length h.steps + length (xs ++ later)
+full_then h k xs later same full (inl a) = omega (arith, same, full, ap length a.steps, length-append h.steps xs, length-append xs later)
+full_then h k xs later same full (inr a) = omega (arith, a.full, ap length a.steps, length-append a.earlier k.steps, length-append xs later)
+
 eras_then : (h k l : History) (xs ys : List Step) → Grows h k xs → Grows k l ys → GoesOn h k xs ⊎ WasSealed h k xs → GoesOn k l ys ⊎ WasSealed k l ys → GoesOn h l (xs ++ ys) ⊎ WasSealed h l (xs ++ ys)
 eras_then h k l xs ys g q (inl a) (inl b) = inl (record {
   steps = b.steps ∙ (ap (λ w. w ++ ys) a.steps ∙ append_assoc h.steps xs ys);
-  base = b.base ∙ a.base;
-  asked_before = b.asked_before ∙ a.asked_before;
-  taken_before = b.taken_before ∙ a.taken_before;
   is_sealed = b.is_sealed ∙ a.is_sealed;
 })
 eras_then h k l xs ys g q (inr a) (inl b) = inr (record {
   earlier = a.earlier;
+  full = a.full;
   steps = ap (λ w. w ++ ys) a.steps ∙ (append_assoc a.earlier k.steps ys ∙ ap (λ w. a.earlier ++ w) (sym b.steps));
-  base = b.base ∙ a.base;
-  asked_before = λ i. rw b.asked_before (a.asked_before i);
-  taken_before = λ i. rw b.taken_before (a.taken_before i);
   is_sealed = b.is_sealed ∙ a.is_sealed;
 })
 eras_then h k l xs ys g q s (inr b) = inr (record {
   earlier = xs ++ b.earlier;
+  full = full_then h k xs b.earlier g.era b.full s;
   steps = ap (λ w. xs ++ w) b.steps ∙ sym (append_assoc xs b.earlier l.steps);
-  base = b.base ∙ (ap (λ (w : State). state_after w b.earlier) g.state ∙ sym (state_after-append h.state xs b.earlier));
-  asked_before = λ i. omega (arith, b.asked_before i, g.asked i, asks_append (i + 1) xs b.earlier);
-  taken_before = λ i. omega (arith, b.taken_before i, g.taken i, outs_append (i + 1) xs b.earlier);
   is_sealed = b.is_sealed;
 })
 
@@ -139,8 +135,8 @@ leaves_then (Err e) h k l xs ys is owed left = widened (contains l.debt) h k xs 
 pub prepares_none : (h : History) → Prepares h h
 prepares_none h = record { steps = []; grows = grows_none h; own_steps = refl; covers = covers_itself h.debt }
 
-pub prepares_sealed : (h k : History) → Seals h k → Prepares h k
-prepares_sealed h k s = record { steps = []; grows = grows_sealed h k s; own_steps = refl; covers = rw s.debt (covers_itself h.debt) }
+pub prepares_sealed : (h k : History) → Seals h k → h.era ≤ length h.steps → Prepares h k
+prepares_sealed h k s full = record { steps = []; grows = grows_sealed h k s full; own_steps = refl; covers = rw s.debt (covers_itself h.debt) }
 
 pub performs_then : (h k l : History) (own : List Step) (r : Result Unit Stopped) → Prepares h k → Performs k l own r → Performs h l own r
 performs_then h k l own r p q = record {

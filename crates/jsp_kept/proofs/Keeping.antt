@@ -1,5 +1,5 @@
 -- What keeps a history whole.
-use Rattle.std.proofs.Common.{◌≡◌, ℕ, ◌+◌, ◌-◌, ◌<◌, ◌≤◌, List, length, get_or, sum, cond, Option, Some, sym, ◌∙◌, ap, subst, arith}
+use Rattle.std.proofs.Common.{◌≡◌, ℕ, ◌+◌, ◌-◌, ◌<◌, ◌≤◌, List, ◌++◌, append_assoc, length, get_or, sum, cond, Option, Some, sym, ◌∙◌, ap, subst, arith}
 use Rattle.std.specs.Prelude.{◌==◌}
 use Rattle.std.proofs.lemmas.List.{get_or-set_same, get_or-set_other, length-set}
 use Rattle.std.proofs.lemmas.List.Sums.{sum_by-set}
@@ -34,17 +34,19 @@ last_on h k steps makes = ap (λ (w : State). w.last_session) (sym makes.view) �
 pub kept_on : (h k : History) (steps : List Step) → IsKept h → KeepsEra h k → Makes h.state k.state h.steps k.steps steps → CountsUp h k (own_of steps) → length k.steps ≤ limit_of k → IsKept k
 kept_on h k steps was era makes grows within =
     let last = last_on h k steps makes in
+    let joined : (was.earlier ++ h.steps) ++ steps ≡ was.earlier ++ (h.steps ++ steps) = append_assoc was.earlier h.steps steps in
     record {
-      run = rw (makes.log, era.base) (IsRun-append h.base h.steps steps was.run (subst (λ (w : State). IsRun w steps) was.state makes.run));
+      earlier = was.earlier;
+      first = λ u. was.first (sym era.is_sealed ∙ u);
+      run = rw (makes.log, era.spaces) (subst (IsRun (empty h.spaces)) joined (IsRun-append (empty h.spaces) (was.earlier ++ h.steps) steps was.run (subst (λ (w : State). IsRun w steps) was.state makes.run)));
       steady = subst IsSteady makes.view (steady_run h.state steps makes.run was.steady);
-      state = rw (makes.log, era.base) (sym makes.view ∙ (ap (λ w. state_after w steps) was.state ∙ sym (state_after-append h.base h.steps steps)));
-      asked = λ i. rw (makes.log, era.asked_before) (omega (arith, grows.asked i, was.asked i, asks_append (i + 1) h.steps steps, asks_own (i + 1) steps));
-      taken = λ i. rw (makes.log, era.taken_before) (omega (arith, grows.taken i, was.taken i, outs_append (i + 1) h.steps steps, outs_own (i + 1) steps));
+      state = rw (makes.log, era.spaces) (sym makes.view ∙ (ap (λ w. state_after w steps) was.state ∙ (sym (state_after-append (empty h.spaces) (was.earlier ++ h.steps) steps) ∙ ap (state_after (empty h.spaces)) joined)));
+      asked = λ i. rw makes.log (omega (arith, grows.asked i, was.asked i, asks_append (i + 1) (was.earlier ++ h.steps) steps, asks_own (i + 1) steps, ap (asks_of (i + 1)) joined));
+      taken = λ i. rw makes.log (omega (arith, grows.taken i, was.taken i, outs_append (i + 1) (was.earlier ++ h.steps) steps, outs_own (i + 1) steps, ap (outs_of (i + 1)) joined));
       asks_book = grows.asks_book;
       outs_book = grows.outs_book;
       askers = grows.askers ∙ sym last;
       takers = grows.takers ∙ sym last;
-      first = λ u. let f = was.first (sym era.is_sealed ∙ u) in record { base = era.base ∙ (f.base ∙ ap empty (sym era.spaces)); asked_before = era.asked_before ∙ f.asked_before; taken_before = era.taken_before ∙ f.taken_before };
       within = within;
     }
 

@@ -5,6 +5,7 @@ mod Keeping
 mod Counting
 mod Begun
 mod Beginning
+mod Sealing
 mod Growing
 mod Ending
 mod Turning

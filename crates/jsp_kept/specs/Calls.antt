@@ -10,12 +10,9 @@ use Rattle.jsp_kept.specs.History.{History, Place}
 
 -- ---- what stays
 
--- the era began where it began
+-- it is the same era
 pub record KeepsEra (h k : History) : Type 0 where
   pub spaces : k.spaces ≡ h.spaces
-  pub base : k.base ≡ h.base
-  pub asked_before : k.asked_before ≡ h.asked_before
-  pub taken_before : k.taken_before ≡ h.taken_before
   pub era : k.era ≡ h.era
   pub is_sealed : k.is_sealed ≡ h.is_sealed
 
@@ -58,9 +55,6 @@ pub record Begins (h k : History) (p q : Place) : Type 0 where
 
 -- a new era begins where the history stands, with no steps
 pub record Seals (h k : History) : Type 0 where
-  pub base : k.base ≡ h.state
-  pub asked_before : k.asked_before ≡ h.asked
-  pub taken_before : k.taken_before ≡ h.taken
   pub steps : k.steps ≡ []
   pub is_sealed : k.is_sealed ≡ true
   -- the rest stays

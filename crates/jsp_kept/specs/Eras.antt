@@ -1,5 +1,5 @@
 -- How a call takes a history on. Its steps go on from the present state, in the same era; or eras were sealed between them.
-use Rattle.std.specs.Prelude.{◌≡◌, ℕ, ◌+◌, ◌<◌, ◌⊎◌, Bool, true, false, List, [], ◌++◌, length, get_or, Result}
+use Rattle.std.specs.Prelude.{◌≡◌, ℕ, ◌+◌, ◌<◌, ◌≤◌, ◌⊎◌, Bool, true, false, List, [], ◌++◌, length, get_or, Result}
 use Rattle.jsp_model.specs.declared.state.State.{State}
 use Rattle.jsp_model.specs.declared.step.Step.{Step}
 use Rattle.jsp_model.specs.declared.house.Stopped.{Stopped}
@@ -16,18 +16,13 @@ use Rattle.jsp_kept.specs.History.{History, limit_of}
 -- the era goes on by these steps
 pub record GoesOn (h k : History) (made : List Step) : Type 0 where
   pub steps : k.steps ≡ h.steps ++ made
-  pub base : k.base ≡ h.base
-  pub asked_before : k.asked_before ≡ h.asked_before
-  pub taken_before : k.taken_before ≡ h.taken_before
   pub is_sealed : k.is_sealed ≡ h.is_sealed
 
--- The present era began after some of these steps, in the state and with the counts that they left, and has the others.
+-- The present era began after some of these steps, and has the others. By then there were as many steps as an era holds.
 pub record WasSealed (h k : History) (made : List Step) : Type 0 where
   pub earlier : List Step
+  pub full : h.era ≤ length h.steps + length earlier
   pub steps : made ≡ earlier ++ k.steps
-  pub base : k.base ≡ state_after h.state earlier
-  pub asked_before : (i : ℕ) → get_or k.asked_before i 0 ≡ get_or h.asked i 0 + asks_of (i + 1) earlier
-  pub taken_before : (i : ℕ) → get_or k.taken_before i 0 ≡ get_or h.taken i 0 + outs_of (i + 1) earlier
   pub is_sealed : k.is_sealed ≡ true
 
 -- these steps were made, a run from the old state to the new one, and the counts went up by what they count

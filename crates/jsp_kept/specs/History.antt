@@ -1,5 +1,5 @@
 -- The history that one lock keeps, and what is true of it whenever the lock is free.
-use Rattle.std.specs.Prelude.{◌≡◌, ℕ, ◌+◌, ◌-◌, ◌^◌, ◌≤◌, ◌==◌, ◌&&◌, nat_lt, Bool, false, List, [], length, get_or, sum, Option, Some}
+use Rattle.std.specs.Prelude.{◌≡◌, ℕ, ◌+◌, ◌-◌, ◌^◌, ◌≤◌, ◌==◌, ◌&&◌, nat_lt, Bool, false, List, [], ◌++◌, length, get_or, sum, Option, Some}
 use Rattle.jsp_model.specs.declared.state.State.{State}
 use Rattle.jsp_model.specs.declared.step.Step.{Step}
 use Rattle.jsp_model.specs.Lookup.{empty}
@@ -13,11 +13,7 @@ pub record History : Type 0 where
   -- the house's view, and what it owes
   pub state : State
   pub debt : List ℕ
-  -- where the era began: the state then, and the counts beside it
-  pub base : State
-  pub asked_before : List ℕ
-  pub taken_before : List ℕ
-  -- the era's steps
+  -- the steps of the present era
   pub steps : List Step
   -- how many requests and faults each session made, and how many answers it took
   pub asked : List ℕ
@@ -29,24 +25,20 @@ pub record History : Type 0 where
   pub era : ℕ
   pub is_sealed : Bool
 
--- No era was sealed: the history is whole from the empty state on.
-pub record IsFirst (h : History) : Type 0 where
-  pub base : h.base ≡ empty h.spaces
-  pub asked_before : h.asked_before ≡ []
-  pub taken_before : h.taken_before ≡ []
-
--- what is true whenever the lock is free
+-- What is true whenever the lock is free. Some steps were made in earlier eras and are gone, none where no era was sealed. With
+-- those of the present era they are one run from the empty state.
 pub record IsKept (h : History) : Type 0 where
-  pub run : IsRun h.base h.steps
-  pub state : h.state ≡ state_after h.base h.steps
+  pub earlier : List Step
+  pub first : h.is_sealed ≡ false → earlier ≡ []
+  pub run : IsRun (empty h.spaces) (earlier ++ h.steps)
+  pub state : h.state ≡ state_after (empty h.spaces) (earlier ++ h.steps)
   pub steady : IsSteady h.state
-  pub asked : (i : ℕ) → get_or h.asked i 0 ≡ get_or h.asked_before i 0 + asks_of (i + 1) h.steps
-  pub taken : (i : ℕ) → get_or h.taken i 0 ≡ get_or h.taken_before i 0 + outs_of (i + 1) h.steps
+  pub asked : (i : ℕ) → get_or h.asked i 0 ≡ asks_of (i + 1) (earlier ++ h.steps)
+  pub taken : (i : ℕ) → get_or h.taken i 0 ≡ outs_of (i + 1) (earlier ++ h.steps)
   pub asks_book : h.asks_book ≡ sum h.asked
   pub outs_book : h.outs_book ≡ sum h.taken
   pub askers : length h.asked ≡ h.state.last_session
   pub takers : length h.taken ≡ h.state.last_session
-  pub first : h.is_sealed ≡ false → IsFirst h
   pub within : length h.steps ≤ h.era + shuts_of h.steps
 
 -- nothing was done yet
@@ -55,9 +47,6 @@ new_history spaces debt era = record {
   spaces = spaces;
   state = empty spaces;
   debt = debt;
-  base = empty spaces;
-  asked_before = [];
-  taken_before = [];
   steps = [];
   asked = [];
   taken = [];

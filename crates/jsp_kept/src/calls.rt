@@ -97,9 +97,7 @@ impl<H: House, A: Ledger, O: Ledger> Kept<H, A, O> {
         ensures asks { KeepsAsks self.old self.new }
         ensures outs { KeepsOuts self.old self.new }
     {
-        if let Err(NoMemory) = self.make_place() {
-            return Err(unmade(Why::NoMemory));
-        }
+        self.make_place();
         match self.house.turn() {
             None => self.quiet_next(),
             Some(turn) => self.vote(turn),
@@ -139,9 +137,7 @@ impl<H: House, A: Ledger, O: Ledger> Kept<H, A, O> {
         ) {
             return Err(unmade(Why::Audit));
         }
-        if let Err(NoMemory) = self.make_place() {
-            return Err(unmade(Why::NoMemory));
-        }
+        self.make_place();
         self.hand_out_in_era(seat, most)
     }
 }

@@ -1,13 +1,13 @@
 //! The history that one lock keeps.
-ghost use Rattle.std.specs.Prelude.{◌≡◌, [], ◌≤◌, ◌+◌, ◌-◌, ◌^◌, false, IfOk, OnOk, OnErr, vec_len, vec_capacity};
+ghost use Rattle.std.specs.Prelude.{◌≡◌, ◌≤◌, ◌+◌, ◌^◌, true, IfOk, length};
 ghost use Rattle.jsp_model.specs.Lookup.{empty, is_open};
-ghost use Rattle.jsp_model.specs.Runs.{IsRun};
+ghost use Rattle.jsp_model.specs.Outboxes.{outbox_of};
 ghost use Rattle.jsp_model.specs.House.{Makes, shuts, next_waiting, awaits_decision};
 ghost use Rattle.jsp_kept.specs.History.{IsKept, new_history};
 ghost use Rattle.jsp_kept.specs.Calls.{KeepsEra, KeepsAsks, KeepsOuts, Seals};
 
-use jsp_model::{Config, House, Image, Step};
-use jsp_rows::empty_image;
+use jsp_model::{Config, House, Step};
+use jsp_rows::Backlog;
 use jsp_types::{NoMemory, Text};
 use std::alloc::Global;
 use std::marker::Model;
@@ -18,9 +18,6 @@ use std::sync::ledger::{Blank, Book, Ledger, Share};
 pub struct Kept<H: House, A: Ledger, O: Ledger> {
     pub(crate) house: H,
     pub(crate) config: Config,
-    pub(crate) base: Image,
-    pub(crate) asked_before: Vec<u64>,
-    pub(crate) taken_before: Vec<u64>,
     pub(crate) log: Vec<Step>,
     pub(crate) asked: Vec<u64>,
     pub(crate) taken: Vec<u64>,
@@ -47,9 +44,6 @@ impl<H: House, A: Ledger, O: Ledger> Model for Kept<H, A, O> {
       spaces = k.config;
       state = H.view k.house;
       debt = H.debt k.house;
-      base = k.base;
-      asked_before = k.asked_before.items;
-      taken_before = k.taken_before.items;
       steps = k.log.items;
       asked = k.asked.items;
       taken = k.taken.items;
@@ -64,9 +58,6 @@ impl<H: House, A: Ledger, O: Ledger> Model for Kept<H, A, O> {
           spaces = k.config;
           state = H.view k.house;
           debt = H.debt k.house;
-          base = k.base;
-          asked_before = k.asked_before.items;
-          taken_before = k.taken_before.items;
           steps = k.log.items;
           asked = k.asked.items;
           taken = k.taken.items;
@@ -91,8 +82,6 @@ impl<H: House, A: Ledger, O: Ledger> Model for Kept<H, A, O> {
 /// An era that is over.
 #[derive(Drop)]
 pub struct Era {
-    /// The state in which it began.
-    pub base: Image,
     pub steps: Vec<Step>,
     /// Whether an era was sealed before it. Where none was, its steps are the whole history.
     pub is_sealed: bool,
@@ -115,7 +104,6 @@ impl<H: House, A: Ledger, O: Ledger> Kept<H, A, O> {
         requires outs { (outs.name ≡ O.name) × (outs.parts ≡ O.parts) × (O.parts ≡ 2 ^ 31 + 1) }
         ensures { IfOk result (λ k. k ≡ new_history config.now (H.debt house) era) }
     {
-        let base = empty_image(alloc, config)?;
         let config = copy_of(config)?;
         let mut house = house;
         house.bound(era);
@@ -124,9 +112,6 @@ impl<H: House, A: Ledger, O: Ledger> Kept<H, A, O> {
         Ok(Kept {
             house,
             config,
-            base,
-            asked_before: Vec::new(alloc),
-            taken_before: Vec::new(alloc),
             log: Vec::new(alloc),
             asked: Vec::new(alloc),
             taken: Vec::new(alloc),
@@ -177,6 +162,13 @@ impl<H: House, A: Ledger, O: Ledger> Kept<H, A, O> {
         self.config.spaces()
     }
 
+    /// Whether its spaces are those of the config. No says nothing.
+    pub fn is_of(&self, config: &Config) -> bool
+        ensures { result ≡ true → self.now.spaces ≡ config.now }
+    {
+        are_same(self.config.spaces(), config.spaces())
+    }
+
     /// Whether an era was sealed.
     pub fn is_sealed(&self) -> bool
         ensures { result ≡ self.now.is_sealed }
@@ -202,37 +194,48 @@ impl<H: House, A: Ledger, O: Ledger> Kept<H, A, O> {
 
     /// The era, which ends here.
     pub fn into_era(self) -> Era
-        ensures base { result.base ≡ self.base }
         ensures steps { result.steps.items ≡ self.steps }
         ensures is_sealed { result.is_sealed ≡ self.is_sealed }
-        ensures run { IsRun result.base result.steps.items }
-        ensures first { result.is_sealed ≡ false → result.base ≡ empty self.spaces }
     {
         Era {
-            base: self.base,
             steps: self.log,
             is_sealed: self.is_sealed,
         }
     }
 
-    /// Begins a new era where the history stands: its base is the present state, and its steps are
-    /// none. The counts go on.
-    pub fn seal(&mut self) -> Result<(), NoMemory>
-        ensures ok { OnOk result (Seals self.old self.new) }
-        ensures err { OnErr result (self.new ≡ self.old) }
+    /// Begins a new era where the history stands, with no steps. The counts go on. Takes no memory: the steps so far are
+    /// gone, and no copy of the state stands for them. That they were one run to it is what the type keeps.
+    pub fn seal(&mut self)
+        ensures { Seals self.old self.new }
     {
-        let base = self.house.image()?;
-        let asked_before = self.asked.clone()?;
-        let taken_before = self.taken.clone()?;
-        self.base = base;
-        self.asked_before = asked_before;
-        self.taken_before = taken_before;
         self.log.clear();
         self.is_sealed = true;
         self.limit = self.era;
         self.house.bound(self.limit);
-        Ok(())
     }
+}
+
+impl<H: Backlog, A: Ledger, O: Ledger> Kept<H, A, O> {
+    /// How many answers wait to be handed out to the session.
+    pub fn waiting(&self, session: u64) -> u64
+        ensures { result ≡ length (outbox_of self.now.state session) }
+    {
+        self.house.waiting(session)
+    }
+}
+
+fn are_same(ours: &[Text], others: &[Text]) -> bool
+    ensures { result ≡ true → ours.now ≡ others.now }
+{
+    if ours.len() != others.len() {
+        return false;
+    }
+    for i in 0..ours.len() {
+        if !ours[i].is(others[i].as_str()) {
+            return false;
+        }
+    }
+    true
 }
 
 // A copy of the config.

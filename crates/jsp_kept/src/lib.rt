@@ -1,11 +1,11 @@
 //! The history that one lock keeps, without threads and without the lock.
 //!
-//! `Kept` has a house and the history of one era: the state in which the era began, and the steps
-//! since then. Its type keeps that the steps are a legal run from that base to the house's state
+//! `Kept` has a house and the steps of the present era of its history; those of earlier eras are gone.
+//! Its type keeps that both together are one legal run from the empty state to the house's state
 //! (`specs/History.antt`). For each session it counts the requests made and the answers taken, and
-//! the type ties these counts to the steps. A `Seat` has a session's counts too, with a share of each
+//! the type ties these counts to that run. A `Seat` has a session's counts too, with a share of each
 //! of two ledgers, whose books stand beside the history: so a history that lost a request or an answer
-//! of its era could not meet its type. A call with a seat whose count isn't its session's is refused
+//! could not meet its type. A call with a seat whose count isn't its session's is refused
 //! before all else. What each call changes, and what stays, is said in `specs/Calls.antt`.
 #![tactic(auto)]
 
@@ -19,6 +19,6 @@ mod turns;
 
 pub use jsp_drive::LineInput;
 // What is asked of a history that has ended, so that its callers name one crate.
-pub use jsp_rows::{ReplayFault, Replayed, is_open, is_quiet, replay};
+pub use jsp_rows::{Backlog, ReplayFault, Replayed, is_open, is_quiet, replay};
 pub use kept::{Era, Kept};
 pub use seats::{AskSeat, OutSeat, Seat};

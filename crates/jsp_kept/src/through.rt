@@ -12,19 +12,18 @@ use std::sync::ledger::Ledger;
 
 impl<H: House, A: Ledger, O: Ledger> Kept<H, A, O> {
     /// Begins a new era where this one is full.
-    pub(crate) fn make_place(&mut self) -> Result<(), NoMemory>
+    pub(crate) fn make_place(&mut self)
         ensures grows { Grows self.old self.new [] }
         ensures prepares { Prepares self.old self.new }
-        ensures place { OnOk result (HasPlace self.new) }
+        ensures place { HasPlace self.new }
         ensures state { self.new.state ≡ self.old.state }
         ensures debt { self.new.debt ≡ self.old.debt }
         ensures asks { KeepsAsks self.old self.new }
         ensures outs { KeepsOuts self.old self.new }
     {
         if self.log.len() as u64 >= self.limit {
-            self.seal()?;
+            self.seal();
         }
-        Ok(())
     }
 
     /// Begins a new era where a full one stopped a call. What else stops one is want of memory.
@@ -38,7 +37,10 @@ impl<H: House, A: Ledger, O: Ledger> Kept<H, A, O> {
         ensures outs { KeepsOuts self.old self.new }
     {
         match cause {
-            Why::EraFull => self.make_place(),
+            Why::EraFull => {
+                self.make_place();
+                Ok(())
+            }
             _ => Err(NoMemory),
         }
     }
@@ -51,11 +53,12 @@ impl<H: House, A: Ledger, O: Ledger> Kept<H, A, O> {
         ensures asks { KeepsAsks self.old self.new }
         ensures outs { KeepsOuts self.old self.new }
     {
-        self.make_place()?;
+        self.make_place();
         'eras: while let Err(cause) = self.ready_in_era(input) {
             self.make_place_after(cause)?;
         }
-        self.make_place()
+        self.make_place();
+        Ok(())
     }
 
     /// Makes what is left and due.
@@ -65,7 +68,7 @@ impl<H: House, A: Ledger, O: Ledger> Kept<H, A, O> {
         ensures asks { KeepsAsks self.old self.new }
         ensures outs { KeepsOuts self.old self.new }
     {
-        self.make_place()?;
+        self.make_place();
         'eras: while let Err(stopped) = self.finish_in_era() {
             self.make_place_after(stopped.why)?;
         }

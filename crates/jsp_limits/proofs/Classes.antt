@@ -87,8 +87,8 @@ class_added classes c h fine new =
     let depth = depth_above-line_above classes c.parent in
     let short : length (line_above classes c) ≤ 15 = grind (arith, nat_tests) in
     let fields = fields_of-new classes c closed absent there short in
-    let formed = and_parts (is_name c.name && list_all (λ f. is_name f.0) c.fields) (are_distinct c.fields) (not-false (is_name c.name && list_all (λ f. is_name f.0) c.fields && are_distinct c.fields) fine.formed) in
-    let names = and_parts (is_name c.name) (list_all (λ f. is_name f.0) c.fields) formed.0 in
+    let formed = and_parts (nat_le (length c.fields) 32 && is_name c.name && list_all (λ f. is_name f.0) c.fields) (are_distinct c.fields) (not-false (nat_le (length c.fields) 32 && is_name c.name && list_all (λ f. is_name f.0) c.fields && are_distinct c.fields) fine.formed) in
+    let names = and_parts (nat_le (length c.fields) 32 && is_name c.name) (list_all (λ f. is_name f.0) c.fields) formed.0 in
     let long = length-append (inherited classes c) c.fields in
     let count : nat_le (length (inherited classes c ++ c.fields)) 32 ≡ true = grind (arith, nat_tests) in
     let all_short : are_short (inherited classes c ++ c.fields) ≡ true =
@@ -96,7 +96,7 @@ class_added classes c h fine new =
     ∙ and_from (are_short (inherited classes c)) (are_short c.fields) (inherited_short classes c.parent h.each there) (names_are_short c.fields names.1) in
     let small : is_within_limits c.name (inherited classes c ++ c.fields) ≡ true =
     and_from (nat_le (length c.name) 64 && nat_le (length (inherited classes c ++ c.fields)) 32) (are_short (inherited classes c ++ c.fields))
-    (and_from (nat_le (length c.name) 64) (nat_le (length (inherited classes c ++ c.fields)) 32) (name_is_short c.name names.0) count) all_short in
+    (and_from (nat_le (length c.name) 64) (nat_le (length (inherited classes c ++ c.fields)) 32) (name_is_short c.name (and_parts (nat_le (length c.fields) 32) (is_name c.name) names.0).1) count) all_short in
     let itself : is_class (classes ++ c ∷ []) c ≡ true = and_from (option_map_or (is_declared (classes ++ c ∷ [])) c.parent true) (is_within_limits c.name (fields_of (classes ++ c ∷ []) c.name))
     (still c.parent there) (subst (λ fs. is_within_limits c.name fs ≡ true) (sym fields) small) in
     let others : list_all (is_class (classes ++ c ∷ [])) classes ≡ true =

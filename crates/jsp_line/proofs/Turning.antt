@@ -1,5 +1,5 @@
 -- What a line reads and asks, turn by turn.
-use Rattle.std.proofs.Common.{◌≡◌, ℕ, ◌+◌, false, true≢false, List, [], ◌∷◌, ◌++◌, length, refl, sym, ◌∙◌, subst, append_assoc, append-nil, length-append, arith, inl, inr}
+use Rattle.std.proofs.Common.{◌≡◌, ℕ, ◌+◌, false, true≢false, List, [], ◌∷◌, ◌++◌, length, refl, sym, ap, ◌∙◌, subst, append_assoc, append-nil, length-append, arith, inl, inr}
 use Rattle.std.specs.Prelude.{Bool, Option, Some, None, IfSome}
 use Rattle.std.proofs.KnownBytes.{Consumes-trans, Consumes-nil}
 use Rattle.jsp_model.specs.declared.step.Step.{Step}
@@ -246,3 +246,8 @@ no_fault (Some Stopped) n m early same = same
 no_fault (Some End) n m early same = same
 no_fault (Some Failed) n m early same = absurd (true≢false early)
 no_fault (Some Bound) n m early same = same
+
+-- a line that ended before all was acted didn't end at its bound
+pub not_at_bound : (ended : Option Ended) → IfSome ended (λ e. is_acted e ≡ false) → IfSome ended (λ e. e ≡ Bound → ⊥)
+not_at_bound None early = tt
+not_at_bound (Some e) early = λ is. true≢false (sym (ap is_acted is) ∙ early)

@@ -1,13 +1,16 @@
 //! What is taken is written; and the second thread of a line.
 use crate::gate::Gate;
 use crate::half::{Health, OutHalf, Sent, Start};
+use crate::hangup::Hangup;
 use crate::shared::Shared;
-use jsp_model::{House, Why};
+use jsp_kept::Backlog;
+use jsp_model::Why;
 use std::io::Write;
 use std::sync::ledger::Ledger;
 use std::sync::{Mutex, Wait};
+use std::time::Clock;
 
-impl<H: House, A: Ledger, O: Ledger, G: Gate, C, T: Wait> Shared<'_, H, A, O, G, C, T> {
+impl<H: Backlog, A: Ledger, O: Ledger, G: Gate, C, T: Wait + Clock> Shared<'_, H, A, O, G, C, T> {
     /// Tells the gate what was written, with no lock held, and shuts the session of a broken line.
     pub(crate) fn tell(&self, session: u64, sent: Sent) {
         if sent.health != Health::Sound {
@@ -15,6 +18,13 @@ impl<H: House, A: Ledger, O: Ledger, G: Gate, C, T: Wait> Shared<'_, H, A, O, G,
         }
         for nth in sent.above..sent.last {
             self.gate.written(session, nth + 1);
+        }
+    }
+
+    /// Has the connection ended of a session that was shut, where one was.
+    pub(crate) fn cut(&self, session: Option<u64>) {
+        if let Some(session) = session {
+            self.gate.cut(session);
         }
     }
 
@@ -42,22 +52,27 @@ impl<H: House, A: Ledger, O: Ledger, G: Gate, C, T: Wait> Shared<'_, H, A, O, G,
         Ok(())
     }
 
-    /// Writes what others' acts cause for the line, until its session is closed and nothing waits.
-    pub(crate) fn answer_all<W: Write, S: Start>(
+    /// Writes what others' acts cause for the line, until its session is closed and nothing waits. Then the
+    /// connection is ended: whatever closed the session, nobody waits for more at either end.
+    pub(crate) fn answer_all<W: Write, S: Start, X: Hangup>(
         &self,
         half: &Mutex<OutHalf<O, W, S>>,
+        hangup: &X,
         session: u64,
     ) -> Option<Why> {
+        let mut stopped = None;
         for _ in self.rt.forever() {
             let is_open = self.floor.wait_for(self.rt, session);
             if let Err(why) = self.drain(half, session) {
                 self.floor.shut(self.rt, session);
-                return Some(why);
+                stopped = Some(why);
+                break;
             }
             if !is_open {
                 break;
             }
         }
-        None
+        hangup.hang_up();
+        stopped
     }
 }

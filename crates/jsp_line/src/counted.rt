@@ -1,4 +1,4 @@
-//! A reader or writer whose failures are counted.
+//! A reader or writer whose calls and failures are counted.
 ghost use Rattle.std.specs.Prelude.{◌≡◌, ◌≤◌, ◌<◌, ◌+◌, ℕ, length, take, OnErr, OnOk};
 ghost use Rattle.std.specs.Io.{ReadsAtMost};
 ghost use Rattle.std.specs.Io.KnownBytes.{ReadConsumes, Appends};
@@ -7,10 +7,11 @@ ghost use Rattle.jsp_line.specs.Bytes.{saturated};
 use std::io;
 use std::io::{Read, Write};
 
-/// Passes its calls on, and counts those that failed, up to 2^64 - 1.
+/// Passes its calls on, and counts its reads and the calls that failed, each up to 2^64 - 1.
 #[derive(Drop)]
 pub struct Counted<T> {
     pub inner: T,
+    pub reads: u64,
     pub failures: u64,
 }
 
@@ -19,7 +20,11 @@ impl<T> Counted<T> {
         ensures inner { result.inner ≡ inner }
         ensures none { result.failures ≡ 0 }
     {
-        Counted { inner, failures: 0 }
+        Counted {
+            inner,
+            reads: 0,
+            failures: 0,
+        }
     }
 }
 
@@ -30,8 +35,10 @@ impl<R: Read> Counted<R> {
         ensures bytes { ReadConsumes (R.remaining self.old.inner) (R.remaining self.new.inner) result buf.new }
         ensures ok { OnOk result (self.new.failures ≡ self.old.failures) }
         ensures err { OnErr result (self.new.failures ≡ saturated self.old.failures) }
+        ensures counted { self.new.reads ≡ saturated self.old.reads }
     {
         let result = self.inner.read(buf);
+        self.reads = self.reads.saturating_add(1);
         if result.is_err() {
             self.failures = self.failures.saturating_add(1);
         }

@@ -5,8 +5,8 @@ ghost use Rattle.jsp_line.specs.Seats.{Asks, IsSeated, taking};
 ghost use Rattle.jsp_line.specs.Halves.{said_in};
 
 use jsp_drive::LineInput;
-use jsp_kept::{AskSeat, Kept, OutSeat, Seat};
-use jsp_model::{House, Settled, Stopped};
+use jsp_kept::{AskSeat, Backlog, Kept, OutSeat};
+use jsp_model::{Settled, Stopped};
 use jsp_reply::Said;
 use jsp_types::NoMemory;
 use std::alloc::Global;
@@ -15,9 +15,6 @@ use std::sync::ledger::Ledger;
 use std::sync::{Condvar, Mutex, Wait};
 use std::time;
 use std::time::Duration;
-
-/// Most lines at once, and threads that serve them.
-pub const LINES: usize = 256;
 
 /// Most answers that one hold of the lock takes.
 const MOST: u64 = 16;
@@ -29,12 +26,16 @@ const REST: u64 = 10;
 ///
 /// Of locks a thread takes that of its line's writing half first, then this one.
 #[derive(Drop)]
-pub struct Floor<H: House, A: Ledger, O: Ledger> {
+pub struct Floor<H: Backlog, A: Ledger, O: Ledger> {
     kept: Mutex<Kept<H, A, O>>,
     lines: Vec<Condvar>,
     settling: Condvar,
     /// The last reading of the clock that was acted. It is set under the lock.
     time: AtomicU64,
+    /// How many bytes lines read and wrote since they were last too many for an era. It is set under the lock.
+    bytes: AtomicU64,
+    most_bytes: u64,
+    most_waiting: u64,
     /// Whether all lines have ended. It is set under the lock.
     ended: AtomicBool,
     ghost some_lines: { 0 < vec_len lines },
@@ -47,10 +48,22 @@ pub(crate) struct Held {
     pub(crate) said: Result<Vec<Said>, Stopped>,
     pub(crate) is_open: bool,
     pub(crate) is_sealed: bool,
+    /// A session that was shut, since its client reads no answers.
+    pub(crate) shut: Option<u64>,
+}
+
+/// What a settle turn gave.
+#[derive(Drop)]
+pub(crate) struct Turned {
+    pub(crate) settled: Result<Settled, Stopped>,
+    /// A session that was shut, since its client reads no answers.
+    pub(crate) shut: Option<u64>,
+    /// Whether all lines had ended.
+    pub(crate) ended: bool,
 }
 
 /// An act, after a reading of the clock, if there is one.
-fn act_at<H: House, A: Ledger, O: Ledger>(
+fn act_at<H: Backlog, A: Ledger, O: Ledger>(
     kept: &mut Kept<H, A, O>,
     seat: &mut AskSeat<A>,
     time: Option<u64>,
@@ -66,7 +79,7 @@ fn act_at<H: House, A: Ledger, O: Ledger>(
 }
 
 /// A settle turn, after a reading of the clock, if there is one.
-fn settle_at<H: House, A: Ledger, O: Ledger>(
+fn settle_at<H: Backlog, A: Ledger, O: Ledger>(
     kept: &mut Kept<H, A, O>,
     time: Option<u64>,
 ) -> Result<Settled, Stopped> {
@@ -77,7 +90,7 @@ fn settle_at<H: House, A: Ledger, O: Ledger>(
 }
 
 /// The next answers of a line.
-fn take_from<H: House, A: Ledger, O: Ledger>(
+fn take_from<H: Backlog, A: Ledger, O: Ledger>(
     kept: &mut Kept<H, A, O>,
     outs: &mut OutSeat<O>,
 ) -> Result<Vec<Said>, Stopped>
@@ -87,7 +100,7 @@ fn take_from<H: House, A: Ledger, O: Ledger>(
 }
 
 /// An act of a line, and its next answers.
-fn hold<H: House, A: Ledger, O: Ledger>(
+fn hold<H: Backlog, A: Ledger, O: Ledger>(
     kept: &mut Kept<H, A, O>,
     asks: &mut AskSeat<A>,
     time: Option<u64>,
@@ -105,22 +118,33 @@ fn hold<H: House, A: Ledger, O: Ledger>(
         said,
         is_open: kept.is_open(asks.session()),
         is_sealed: kept.is_sealed(),
+        shut: None,
     }
 }
 
-impl<H: House, A: Ledger, O: Ledger> Floor<H, A, O> {
-    /// Puts a lock round a history.
-    pub fn new(alloc: Global, kept: Kept<H, A, O>) -> Result<Floor<H, A, O>, NoMemory> {
+impl<H: Backlog, A: Ledger, O: Ledger> Floor<H, A, O> {
+    /// Puts a lock round a history, for so many lines at once. After so many bytes that lines read and wrote a new
+    /// era begins, and a session for which more answers wait than so many is shut.
+    pub fn new(
+        alloc: Global,
+        kept: Kept<H, A, O>,
+        lines: usize,
+        most_bytes: u64,
+        most_waiting: u64,
+    ) -> Result<Floor<H, A, O>, NoMemory> {
         Ok(Floor {
             kept: Mutex::new(kept),
-            lines: signals(alloc)?,
+            lines: signals(alloc, lines)?,
             settling: Condvar::new(),
             time: AtomicU64::new(0),
+            bytes: AtomicU64::new(0),
+            most_bytes,
+            most_waiting,
             ended: AtomicBool::new(false),
         })
     }
 
-    // The signal of a session's line. Several sessions may share one, so all that wait on it are woken.
+    // The signal of a session's line. Sessions may share one, so all that wait on it are woken.
     fn signal(&self, session: u64) -> &Condvar {
         &self.lines[session as usize % self.lines.len()]
     }
@@ -135,34 +159,59 @@ impl<H: House, A: Ledger, O: Ledger> Floor<H, A, O> {
         Some(time)
     }
 
-    // Wakes each line that has answers waiting. The lock is held.
-    fn wake_lines<T: Wait>(&self, rt: &T, kept: &Kept<H, A, O>) {
+    // Counts what a line read and wrote, and begins a new era where that is too much for one: its steps hold what was
+    // read, and its lines keep both. The lock is held.
+    fn weigh(&self, kept: &mut Kept<H, A, O>, bytes: u64) {
+        let all = self.bytes.load(Ordering::SeqCst).saturating_add(bytes);
+        let is_over = all > self.most_bytes;
+        if is_over {
+            kept.seal();
+        }
+        let left = if is_over { 0 } else { all };
+        self.bytes.store(left, Ordering::SeqCst);
+    }
+
+    // Wakes each line that has answers waiting. The first for which too many wait is shut, and answered: its client
+    // reads none, and holds up nobody else. The lock is held.
+    fn wake_lines<T: Wait>(&self, rt: &T, kept: &mut Kept<H, A, O>) -> Option<u64> {
+        let mut shut = None;
         let mut after = 0;
         for _ in rt.forever() {
             let Some(session) = kept.next_waiting(after) else {
                 break;
             };
+            if shut.is_none() && self.is_over(kept, session) {
+                kept.shut(session);
+                shut = Some(session);
+            }
             self.signal(session).notify_all();
             after = session;
         }
+        shut
     }
 
-    /// Opens a session.
-    pub fn begin<T: Wait>(&self, rt: &T) -> Result<Seat<A, O>, Stopped>
-        ensures { IfOk result (λ s. IsSeated s.asks s.outs) }
+    // Whether more answers wait for the session than may.
+    fn is_over(&self, kept: &Kept<H, A, O>, session: u64) -> bool {
+        kept.waiting(session) > self.most_waiting && kept.is_open(session)
+    }
+
+    /// Opens a session, and answers its two seats.
+    pub fn begin<T: Wait>(&self, rt: &T) -> Result<(AskSeat<A>, OutSeat<O>), Stopped>
+        ensures { IfOk result (λ s. IsSeated s.0 s.1) }
     {
         let mut kept = self.kept.lock(rt);
-        kept.begin()
+        Ok(kept.begin()?.split())
     }
 
-    /// An act of a line, and its next answers, in one hold of the lock, after this reading of the clock,
-    /// where it is a later one. All lines that have answers waiting then are woken, and the
+    /// An act of a line, which read and wrote so many bytes since its last one, and its next answers, in one hold of
+    /// the lock, after this reading of the clock, where it is a later one. All lines that have answers waiting then are woken, and the
     /// settling worker where it has something to do.
     pub(crate) fn act_and_take<T: Wait>(
         &self,
         rt: &T,
         asks: &mut AskSeat<A>,
         time: u64,
+        bytes: u64,
         given: LineInput,
         outs: &mut OutSeat<O>,
     ) -> Held
@@ -171,23 +220,27 @@ impl<H: House, A: Ledger, O: Ledger> Floor<H, A, O> {
         ensures outs { outs.new ≡ taking outs.old (length (said_in result.said)) }
     {
         let mut kept = self.kept.lock(rt);
-        let held = hold(&mut *kept, asks, self.later(time), given, outs);
-        self.wake_lines(rt, &*kept);
+        self.weigh(&mut *kept, bytes);
+        let mut held = hold(&mut *kept, asks, self.later(time), given, outs);
+        held.shut = self.wake_lines(rt, &mut *kept);
         if held.acted.is_err() || kept.is_voting() {
             self.settling.notify_all();
         }
         held
     }
 
-    /// The next answers of a line, if there are any, and whether an era was sealed.
+    /// The next answers of a line, if there are any, which read and wrote so many bytes since its last act, and whether
+    /// an era was sealed.
     pub(crate) fn take<T: Wait>(
         &self,
         rt: &T,
+        bytes: u64,
         outs: &mut OutSeat<O>,
     ) -> (Result<Vec<Said>, Stopped>, bool)
         ensures { outs.new ≡ taking outs.old (length (said_in result.0)) }
     {
         let mut kept = self.kept.lock(rt);
+        self.weigh(&mut *kept, bytes);
         let said = take_from(&mut *kept, outs);
         (said, kept.is_sealed())
     }
@@ -207,8 +260,8 @@ impl<H: House, A: Ledger, O: Ledger> Floor<H, A, O> {
         unreachable!()
     }
 
-    /// Closes the session, if it is open, and wakes its line.
-    pub(crate) fn shut<T: Wait>(&self, rt: &T, session: u64) {
+    /// Closes the session, if it is open, and wakes its line, which ends.
+    pub fn shut<T: Wait>(&self, rt: &T, session: u64) {
         let mut kept = self.kept.lock(rt);
         kept.shut(session);
         self.signal(session).notify_all();
@@ -219,13 +272,16 @@ impl<H: House, A: Ledger, O: Ledger> Floor<H, A, O> {
         self.kept.lock(rt).is_sealed()
     }
 
-    /// A settle turn, after this reading of the clock, where it is a later one, and whether all lines
-    /// had ended. All lines that have answers waiting then are woken.
-    pub(crate) fn settle<T: Wait>(&self, rt: &T, time: u64) -> (Result<Settled, Stopped>, bool) {
+    /// A settle turn, after this reading of the clock, where it is a later one. All lines that have answers
+    /// waiting then are woken.
+    pub(crate) fn settle<T: Wait>(&self, rt: &T, time: u64) -> Turned {
         let mut kept = self.kept.lock(rt);
         let settled = settle_at(&mut *kept, self.later(time));
-        self.wake_lines(rt, &*kept);
-        (settled, self.ended.load(Ordering::SeqCst))
+        Turned {
+            settled,
+            shut: self.wake_lines(rt, &mut *kept),
+            ended: self.ended.load(Ordering::SeqCst),
+        }
     }
 
     /// Waits until something is to settle, or the clock is to be read. After a turn that was stopped
@@ -254,20 +310,23 @@ impl<H: House, A: Ledger, O: Ledger> Floor<H, A, O> {
             lines: _,
             settling: _,
             time: _,
+            bytes: _,
+            most_bytes: _,
+            most_waiting: _,
             ended: _,
         } = self;
         kept.into_inner()
     }
 }
 
-// A signal for each line.
-fn signals(alloc: Global) -> Result<Vec<Condvar>, NoMemory>
+// A signal for each line, and one at least.
+fn signals(alloc: Global, lines: usize) -> Result<Vec<Condvar>, NoMemory>
     ensures { IfOk result (λ v. 0 < vec_len v) }
 {
-    let mut lines = Vec::new(alloc);
-    lines.push(Condvar::new())?;
-    for _ in 1..LINES {
-        lines.push(Condvar::new())?;
+    let mut signals = Vec::new(alloc);
+    signals.push(Condvar::new())?;
+    for _ in 1..lines {
+        signals.push(Condvar::new())?;
     }
-    Ok(lines)
+    Ok(signals)
 }

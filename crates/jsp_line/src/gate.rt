@@ -1,6 +1,6 @@
 //! What lines are given from outside: what tells the time, and what is called at each frame and answer.
 
-/// Called at each frame and answer of a line, with no lock held. A server's gate does nothing; a
+/// Called at each frame and answer of a line, and at its end, with no lock held. A server's gate does nothing; a
 /// test's may hold a line until something else has happened.
 pub trait Gate {
     /// Before the act of a session's nth frame, from 1.
@@ -8,6 +8,9 @@ pub trait Gate {
 
     /// After a session's nth answer or event was written, from 1.
     fn written(&self, session: u64, nth: u64);
+
+    /// After a session was shut since its client reads no answers. Its connection is to be ended.
+    fn cut(&self, session: u64);
 }
 
 /// What tells the time, in milliseconds.

@@ -1,11 +1,12 @@
 //! The half of a line that writes, which both of its threads lock.
-ghost use Rattle.std.specs.Prelude.{◌≡◌, ◌≤◌, ◌<◌, ◌+◌, ◌++◌, ℕ, List, [], true, false, length, take, IfOk, OnOk, IsTrue};
+ghost use Rattle.std.specs.Prelude.{◌≡◌, ◌≤◌, ◌<◌, ◌+◌, ◌++◌, ◌==◌, ℕ, List, [], true, false, not, length, take, Err, IfOk, IfErr, OnOk, OnErr, IsTrue};
 ghost use Rattle.std.specs.Io.KnownBytes.{Appends};
 ghost use Rattle.jsp_drive.specs.Line.{is_line_input};
 ghost use Rattle.jsp_line.specs.Bytes.{saturated};
 ghost use Rattle.jsp_line.specs.Seats.{Asks};
 ghost use Rattle.jsp_line.specs.declared.half.Health.TheVariants.{Failed};
 ghost use Rattle.jsp_line.specs.Bytes.{IsTranscript};
+ghost use Rattle.jsp_drive.specs.Heard.{framed};
 ghost use Rattle.jsp_closing.specs.Bytes.{frames};
 ghost use Rattle.jsp_line.specs.Halves.{is_sound, said_in, Puts, Writes, WritesPile};
 
@@ -13,8 +14,8 @@ use crate::counted::Counted;
 use crate::floor::{Floor, Held};
 use crate::transcript::Transcript;
 use jsp_drive::{LineInput, encode};
-use jsp_kept::{AskSeat, OutSeat};
-use jsp_model::{House, Stopped};
+use jsp_kept::{AskSeat, Backlog, OutSeat};
+use jsp_model::{Stopped, Why};
 use jsp_reply::Said;
 use jsp_types::NoMemory;
 use std::alloc::Global;
@@ -22,6 +23,14 @@ use std::io::Write;
 use std::marker::{Brand, Model, PhantomData};
 use std::sync::Wait;
 use std::sync::ledger::Ledger;
+use std::thread;
+use std::time::{Clock, Duration};
+
+/// How often memory is asked for again where an answer finds none: what is answered was done, and can't be done again.
+const TRIES: u64 = 100;
+
+/// After how many milliseconds it is asked for again.
+const PAUSE: u64 = 50;
 
 /// The most bytes that may wait to be written while a line goes on asking.
 const PILE: usize = 65_536;
@@ -71,6 +80,8 @@ pub struct OutHalf<O: Ledger, W: Write, S: Start> {
     /// How many answers were written, and how many of these the gate was told of.
     sent: u64,
     told: u64,
+    /// How many bytes went through it since the house was told of them.
+    bytes: u64,
     of: PhantomData<S>,
 }
 
@@ -87,10 +98,23 @@ impl<O: Ledger, W: Write, S: Start> Model for OutHalf<O, W, S> {
 /// How an act of a line went.
 #[derive(Drop)]
 pub(crate) struct Acted {
-    pub(crate) result: Result<(), Stopped>,
+    result: Result<(), Stopped>,
+    received: Result<bool, Stopped>,
     /// Whether the session was open after it.
     pub(crate) is_open: bool,
     pub(crate) is_sealed: bool,
+    /// A session that was shut, since its client reads no answers.
+    pub(crate) shut: Option<u64>,
+}
+
+impl Acted {
+    /// Why the act or the taking of its answers was stopped, where one was.
+    pub(crate) fn why(&self) -> Option<Why> {
+        match (self.result, self.received) {
+            (Err(stopped), _) | (Ok(()), Err(stopped)) => Some(stopped.why),
+            (Ok(()), Ok(_)) => None,
+        }
+    }
 }
 
 /// What was written since the gate was told last.
@@ -112,39 +136,80 @@ pub struct OutDone<O: Ledger, W: Write> {
     pub health: Health,
 }
 
+// Adds the frame of an answer.
+fn pile_frame(alloc: Global, pile: &mut Vec<u8>, said: &Said) -> Result<(), NoMemory>
+    ensures ok { OnOk result (pile.new.items ≡ pile.old.items ++ framed said.now) }
+    ensures err { OnErr result (pile.new.items ≡ pile.old.items) }
+{
+    let frame = encode(alloc, said)?;
+    pile.extend_from_slice(frame.as_slice())?;
+    Ok(())
+}
+
+// Adds the frame of an answer. Where there is no memory for it, it waits for some.
+fn pile_one<T: Clock>(
+    rt: &T,
+    alloc: Global,
+    pile: &mut Vec<u8>,
+    said: &Said,
+) -> Result<(), NoMemory>
+    ensures { OnOk result (pile.new.items ≡ pile.old.items ++ framed said.now) }
+{
+    for _ in 0..TRIES {
+        if pile_frame(alloc, pile, said).is_ok() {
+            return Ok(());
+        }
+        pause(rt);
+    }
+    Err(NoMemory)
+}
+
 // Adds the frames of answers.
-fn pile_up(alloc: Global, pile: &mut Vec<u8>, said: &[Said]) -> Result<(), NoMemory>
+fn pile_up<T: Clock>(
+    rt: &T,
+    alloc: Global,
+    pile: &mut Vec<u8>,
+    said: &[Said],
+) -> Result<(), NoMemory>
     ensures { OnOk result (pile.new.items ≡ pile.old.items ++ frames said.now) }
 {
     for one in said {
-        let frame = encode(alloc, one)?;
-        pile.extend_from_slice(frame.as_slice())?;
+        pile_one(rt, alloc, pile, one)?;
     }
     Ok(())
 }
 
-// The act's result, and that of taking the answers.
-fn both(acted: Result<(), Stopped>, received: Result<bool, Stopped>) -> Result<(), Stopped> {
-    acted?;
-    received?;
-    Ok(())
+fn pause<T: Clock>(rt: &T) {
+    thread::sleep(rt, Duration::from_millis(PAUSE));
+}
+
+// Whether answers wait that no memory was found to take.
+fn is_refused(received: &Result<bool, Stopped>) -> bool {
+    matches!(
+        received,
+        Err(Stopped {
+            why: Why::NoMemory,
+            ..
+        })
+    )
 }
 
 // Puts answers on a pile, but where the half is broken.
-fn put(alloc: Global, pile: &mut Vec<u8>, health: &mut Health, said: &[Said])
+fn put<T: Clock>(rt: &T, alloc: Global, pile: &mut Vec<u8>, health: &mut Health, said: &[Said])
     ensures put { Puts health.old pile.old.items said.now health.new pile.new.items }
     ensures failed { health.new ≡ Failed → health.old ≡ Failed }
 {
     if !health.is_sound() {
         return;
     }
-    if pile_up(alloc, pile, said).is_err() {
+    if pile_up(rt, alloc, pile, said).is_err() {
         *health = Health::NoMemory;
     }
 }
 
 // Takes what a hold of the house's lock gave, and says whether there was anything.
-fn receive(
+fn receive<T: Clock>(
+    rt: &T,
     alloc: Global,
     pile: &mut Vec<u8>,
     health: &mut Health,
@@ -156,13 +221,15 @@ fn receive(
     ensures failed { health.new ≡ Failed → health.old ≡ Failed }
     ensures transcript { (all : List ℕ) → IsTranscript transcript.old all → IsTranscript transcript.new all }
     ensures same { is_sealed ≡ false → transcript.new ≡ transcript.old }
+    ensures any { IfOk result (λ any. any ≡ not (length (said_in said) == 0)) }
+    ensures stopped { IfErr result (λ e. said ≡ Err e) }
 {
     if is_sealed {
         transcript.forget();
     }
     match said {
         Ok(said) => {
-            put(alloc, pile, health, said.as_slice());
+            put(rt, alloc, pile, health, said.as_slice());
             Ok(!said.is_empty())
         }
         Err(stopped) => Err(stopped),
@@ -225,25 +292,31 @@ impl<O: Ledger, W: Write, S: Start> OutHalf<O, W, S> {
             health: Health::Sound,
             sent: 0,
             told: 0,
+            bytes: 0,
             of: PhantomData,
         }
     }
 
-    /// An act of the line, with the answers that wait after it. They are to be written before the
-    /// line reads again; where many wait to be written it is done here, without the house's lock.
-    pub(crate) fn act<H: House, A: Ledger, T: Wait>(
+    /// An act of the line, behind which so many bytes were read since the last one, with the answers that wait after it.
+    /// They are to be written before the line reads again; where many wait to be written it is done here, without the house's lock.
+    pub(crate) fn act<H: Backlog, A: Ledger, T: Wait + Clock>(
         &mut self,
         rt: &T,
         floor: &Floor<H, A, O>,
         asks: &mut AskSeat<A>,
         time: u64,
+        read: u64,
         given: LineInput,
     ) -> Acted
         requires { IsTrue (is_line_input given) }
         ensures asks { Asks asks.old asks.new }
         ensures session { self.new.seat.session ≡ self.old.seat.session }
     {
-        let acted = self.act_and_take(rt, floor, asks, time, given);
+        self.bytes = self.bytes.saturating_add(read);
+        let mut acted = self.act_and_take(rt, floor, asks, time, given);
+        if is_refused(&acted.received) {
+            acted.received = self.take(rt, floor);
+        }
         if self.pile.len() > PILE {
             self.write_pile();
         }
@@ -251,7 +324,7 @@ impl<O: Ledger, W: Write, S: Start> OutHalf<O, W, S> {
     }
 
     // An act of the line, with the answers that wait after it.
-    fn act_and_take<H: House, A: Ledger, T: Wait>(
+    fn act_and_take<H: Backlog, A: Ledger, T: Wait + Clock>(
         &mut self,
         rt: &T,
         floor: &Floor<H, A, O>,
@@ -268,8 +341,11 @@ impl<O: Ledger, W: Write, S: Start> OutHalf<O, W, S> {
             said,
             is_open,
             is_sealed,
-        } = floor.act_and_take(rt, asks, time, given, &mut self.seat);
+            shut,
+        } = floor.act_and_take(rt, asks, time, self.bytes, given, &mut self.seat);
+        self.bytes = 0;
         let received = receive(
+            rt,
             self.alloc,
             &mut self.pile,
             &mut self.health,
@@ -278,22 +354,45 @@ impl<O: Ledger, W: Write, S: Start> OutHalf<O, W, S> {
             is_sealed,
         );
         Acted {
-            result: both(acted, received),
+            result: acted,
+            received,
             is_open,
             is_sealed,
+            shut,
         }
     }
 
-    /// Takes the next answers, and says whether there were any.
-    pub(crate) fn take<H: House, A: Ledger, T: Wait>(
+    /// Takes the next answers, and says whether there were any. They wait where no memory is found to take them, and are
+    /// asked for again.
+    pub(crate) fn take<H: Backlog, A: Ledger, T: Wait + Clock>(
         &mut self,
         rt: &T,
         floor: &Floor<H, A, O>,
     ) -> Result<bool, Stopped>
         ensures session { self.new.seat.session ≡ self.old.seat.session }
     {
-        let (said, is_sealed) = floor.take(rt, &mut self.seat);
+        let mut received = self.take_once(rt, floor);
+        for _ in 0..TRIES {
+            if !is_refused(&received) {
+                break;
+            }
+            pause(rt);
+            received = self.take_once(rt, floor);
+        }
+        received
+    }
+
+    fn take_once<H: Backlog, A: Ledger, T: Wait + Clock>(
+        &mut self,
+        rt: &T,
+        floor: &Floor<H, A, O>,
+    ) -> Result<bool, Stopped>
+        ensures session { self.new.seat.session ≡ self.old.seat.session }
+    {
+        let (said, is_sealed) = floor.take(rt, self.bytes, &mut self.seat);
+        self.bytes = 0;
         receive(
+            rt,
             self.alloc,
             &mut self.pile,
             &mut self.health,
@@ -311,6 +410,7 @@ impl<O: Ledger, W: Write, S: Start> OutHalf<O, W, S> {
         if !self.health.is_sound() {
             return;
         }
+        self.bytes = self.bytes.saturating_add(self.pile.len() as u64);
         self.health = write_on(&mut self.writer, &mut self.pile, &mut self.transcript);
         self.sent = if self.health.is_sound() {
             self.seat.count()
@@ -349,6 +449,7 @@ impl<O: Ledger, W: Write, S: Start> OutHalf<O, W, S> {
             health,
             sent: _,
             told: _,
+            bytes: _,
             of: _,
         } = self;
         OutDone {

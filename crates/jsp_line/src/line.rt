@@ -1,5 +1,6 @@
 //! A line: its two threads over one writing half.
-ghost use Rattle.std.specs.Prelude.{◌≡◌};
+ghost use Rattle.std.specs.Prelude.{◌≡◌, ◌≤◌};
+ghost use Rattle.jsp_closing.specs.declared.closed.Ended.TheVariants.{Bound};
 ghost use Rattle.jsp_line.specs.Seats.{IsSeated};
 ghost use Rattle.jsp_line.specs.Reading.{Faults, Reads};
 ghost use Rattle.jsp_line.specs.Halves.{Writes};
@@ -7,16 +8,17 @@ ghost use Rattle.jsp_line.specs.Halves.{Writes};
 use crate::counted::Counted;
 use crate::gate::{Clock, Gate};
 use crate::half::{OutDone, OutHalf, Start};
+use crate::hangup::Hangup;
 use crate::read::ReadDone;
 use crate::shared::Shared;
-use jsp_kept::Seat;
-use jsp_model::{House, Why};
+use jsp_kept::{AskSeat, Backlog, OutSeat};
+use jsp_model::Why;
 use std::io::{Read, Write};
 use std::marker::Brand;
 use std::sync::ledger::Ledger;
 use std::sync::{Mutex, Wait};
-use std::thread;
 use std::thread::Threads;
+use std::{thread, time};
 
 /// What a line answers.
 #[derive(Drop)]
@@ -29,35 +31,44 @@ pub struct LineDone<A: Ledger, O: Ledger, R: Read, W: Write> {
 }
 
 impl<
-    H: House + Send,
+    H: Backlog + Send,
     A: Ledger + Send + Sync,
     O: Ledger + Send + Sync,
     G: Gate + Sync,
     C: Clock + Sync,
-    T: Threads + Wait + Sync,
+    T: Threads + Wait + time::Clock + Sync,
 > Shared<'_, H, A, O, G, C, T> {
     // Serves a line, whose writer's first bytes are picked.
-    fn serve_from<R: Read + Send + Drop, W: Write + Send + Drop, S: Start + Send + Sync>(
+    fn serve_from<
+        R: Read + Send + Drop,
+        W: Write + Send + Drop,
+        X: Hangup + Sync,
+        S: Start + Send + Sync,
+    >(
         &self,
         reader: R,
         writer: W,
-        seat: Seat<A, O>,
+        hangup: &X,
+        asks: AskSeat<A>,
+        outs: OutSeat<O>,
         bound: u64,
     ) -> LineDone<A, O, R, W>
         requires start { W.contents writer ≡ S.start }
-        requires seat { IsSeated seat.asks seat.outs }
-        ensures session { result.read.seat.session ≡ seat.asks.session }
-        ensures reads { Reads seat.asks.session (R.remaining reader) (R.remaining result.reader.inner) result.read.transcript result.read.ended 0 result.read.seat.count }
+        requires seat { IsSeated asks outs }
+        ensures session { result.read.seat.session ≡ asks.session }
+        ensures reads { Reads asks.session (R.remaining reader) (R.remaining result.reader.inner) result.read.transcript result.read.ended 0 result.read.seat.count }
         ensures faults { Faults result.read.ended 0 result.reader.failures }
+        ensures bound { result.read.ended ≡ Bound → bound ≤ result.reader.reads }
         ensures writes { Writes S.start (W.contents result.out.writer.inner) result.out.seat.count result.out.health result.out.writer.failures result.out.transcript }
     {
-        let (asks, outs) = seat.split();
         let session = outs.session();
         let half = Mutex::new(OutHalf::<O, W, S>::new(self.alloc, outs, writer));
-        let ((reader, read), why) = thread::join(
+        // Where no second thread can be had `join` runs the second call first: the line is then read to its end,
+        // and loses only what others cause to be said to it meanwhile.
+        let (why, (reader, read)) = thread::join(
             self.rt,
+            || self.answer_all(&half, hangup, session),
             || self.read_worker(&half, reader, asks, bound),
-            || self.answer_all(&half, session),
         );
         let mut half = half.into_inner();
         let sent = half.flush();
@@ -71,20 +82,23 @@ impl<
     }
 
     /// Serves a line until it ends, with at most `bound` reads: acts what it asks by the bytes read, and
-    /// writes the frames of the answers to it.
-    pub fn serve_line<R: Read + Send + Drop, W: Write + Send + Drop>(
+    /// writes the frames of the answers to it. Once its session is closed its connection is ended.
+    pub fn serve_line<R: Read + Send + Drop, W: Write + Send + Drop, X: Hangup + Sync>(
         &self,
         reader: R,
         writer: W,
-        seat: Seat<A, O>,
+        hangup: &X,
+        asks: AskSeat<A>,
+        outs: OutSeat<O>,
         bound: u64,
     ) -> LineDone<A, O, R, W>
-        requires { IsSeated seat.asks seat.outs }
-        ensures session { result.read.seat.session ≡ seat.asks.session }
-        ensures reads { Reads seat.asks.session (R.remaining reader) (R.remaining result.reader.inner) result.read.transcript result.read.ended 0 result.read.seat.count }
+        requires { IsSeated asks outs }
+        ensures session { result.read.seat.session ≡ asks.session }
+        ensures reads { Reads asks.session (R.remaining reader) (R.remaining result.reader.inner) result.read.transcript result.read.ended 0 result.read.seat.count }
         ensures faults { Faults result.read.ended 0 result.reader.failures }
+        ensures bound { result.read.ended ≡ Bound → bound ≤ result.reader.reads }
         ensures writes { Writes (W.contents writer) (W.contents result.out.writer.inner) result.out.seat.count result.out.health result.out.writer.failures result.out.transcript }
     {
-        self.serve_from::<R, W, Brand>(reader, writer, seat, bound)
+        self.serve_from::<R, W, X, Brand>(reader, writer, hangup, asks, outs, bound)
     }
 }

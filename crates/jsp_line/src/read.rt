@@ -1,9 +1,12 @@
 //! The thread that reads a line, acts its frames and writes their answers.
-ghost use Rattle.std.specs.Prelude.{◌≡◌, ℕ, List, Option, false, IfSome, IsTrue};
+ghost use Rattle.std.specs.Prelude.{◌≡◌, ◌≤◌, ℕ, List, Option, false, IfNone, IfSome, IsTrue};
 ghost use Rattle.jsp_model.specs.declared.step.Step.{Step};
 ghost use Rattle.jsp_model.specs.House.{step_of};
 ghost use Rattle.jsp_drive.specs.Line.{is_line_input, input_of};
 ghost use Rattle.jsp_drive.specs.Giving.{Gave};
+ghost use Rattle.jsp_closing.specs.declared.closed.Ended.TheVariants.{Bound};
+ghost use Rattle.jsp_line.specs.declared.transcript.Transcript.TheVariants.{Dropped};
+ghost use Rattle.jsp_line.specs.Bytes.{saturated};
 ghost use Rattle.jsp_line.specs.Reading.{is_closing, is_acted, Faults, Reads};
 ghost use Rattle.jsp_line.specs.Turns.{ActsOne, ActsAll, ReadsPiece, FaultsOn, GoesOn, ReadsOn};
 
@@ -14,14 +17,15 @@ use crate::shared::Shared;
 use crate::transcript::Transcript;
 use jsp_closing::Ended;
 use jsp_drive::{Line, LineInput, Next};
-use jsp_kept::AskSeat;
-use jsp_model::{House, Why};
+use jsp_kept::{AskSeat, Backlog};
+use jsp_model::Why;
 use jsp_reply::Refusal;
 use jsp_wire::Ask;
 use std::alloc::Global;
 use std::io::{Read, Write};
 use std::sync::ledger::Ledger;
 use std::sync::{Mutex, Wait};
+use std::time;
 
 /// The most bytes that one read asks for.
 const PIECE: usize = 8192;
@@ -41,6 +45,8 @@ pub struct ReadDone<A: Ledger> {
 pub(crate) struct Course {
     /// What the next read is put in.
     piece: [u8; PIECE],
+    /// How many bytes were read since the last act.
+    bytes: u64,
     /// Whether an era was seen to be sealed.
     is_sealed: bool,
     /// Why a call was stopped, where one was.
@@ -66,10 +72,14 @@ fn read_piece<R: Read>(
 ) -> Option<Ended>
     ensures reads { ReadsPiece (R.remaining reader.old.inner) (R.remaining reader.new.inner) transcript.old transcript.new line.old line.new result }
     ensures faults { FaultsOn result reader.old.failures reader.new.failures }
+    ensures counted { reader.new.reads ≡ saturated reader.old.reads }
+    ensures dropped { IfNone result (transcript.new ≡ Dropped → transcript.old ≡ Dropped) }
+    ensures not_bound { IfSome result (λ ended. ended ≡ Bound → ⊥) }
 {
     match reader.read_once(&mut course.piece) {
         Ok(0) => Some(Ended::End),
         Ok(n) => {
+            course.bytes = course.bytes.saturating_add(n as u64);
             let piece = &course.piece[..n];
             let is_kept = transcript.add(piece).is_ok();
             let is_fed = line.feed(piece).is_ok();
@@ -83,7 +93,15 @@ fn read_piece<R: Read>(
     }
 }
 
-impl<H: House, A: Ledger, O: Ledger, G: Gate, C: Clock, T: Wait> Shared<'_, H, A, O, G, C, T> {
+impl<H: Backlog, A: Ledger, O: Ledger, G: Gate, C: Clock, T: Wait + time::Clock> Shared<
+    '_,
+    H,
+    A,
+    O,
+    G,
+    C,
+    T,
+> {
     // One act of the line. `None` where the line goes on.
     fn act_one<W: Write, S: Start>(
         &self,
@@ -102,10 +120,13 @@ impl<H: House, A: Ledger, O: Ledger, G: Gate, C: Clock, T: Wait> Shared<'_, H, A
         let time = self.clock.now();
         let acted = half
             .lock(self.rt)
-            .act(self.rt, self.floor, seat, time, given);
+            .act(self.rt, self.floor, seat, time, course.bytes, given);
+        course.bytes = 0;
         course.is_sealed = acted.is_sealed;
-        if let Err(stopped) = acted.result {
-            course.why = Some(stopped.why);
+        self.cut(acted.shut);
+        let why = acted.why();
+        if why.is_some() {
+            course.why = why;
             Some(Ended::Stopped)
         } else if seat.count() == before {
             Some(Ended::Cut)
@@ -162,6 +183,8 @@ impl<H: House, A: Ledger, O: Ledger, G: Gate, C: Clock, T: Wait> Shared<'_, H, A
             → GoesOn seat.old.session start (R.remaining reader.old.inner) transcript.old line.old n seat.old.count
             → ReadsOn seat.old.session start (R.remaining reader.new.inner) transcript.new line.new result n seat.new.count }
         ensures faults { FaultsOn result reader.old.failures reader.new.failures }
+        ensures counted { reader.new.reads ≡ saturated reader.old.reads }
+        ensures not_bound { IfSome result (λ ended. ended ≡ Bound → ⊥) }
     {
         if let Some(ended) = read_piece(reader, transcript, line, course) {
             return Some(ended);
@@ -190,8 +213,9 @@ impl<H: House, A: Ledger, O: Ledger, G: Gate, C: Clock, T: Wait> Shared<'_, H, A
             → GoesOn seat.old.session start (R.remaining reader.old.inner) transcript.old line.old n seat.old.count
             → Reads seat.old.session start (R.remaining reader.new.inner) transcript.new result n seat.new.count }
         ensures faults { Faults result reader.old.failures reader.new.failures }
+        ensures bound { result ≡ Bound → bound ≤ reader.new.reads }
     {
-        for _ in 0..bound {
+        'turns: for _turn in 0..bound {
             if let Some(ended) = self.turn(half, reader, transcript, line, seat, course) {
                 return ended;
             }
@@ -210,12 +234,14 @@ impl<H: House, A: Ledger, O: Ledger, G: Gate, C: Clock, T: Wait> Shared<'_, H, A
         ensures session { result.1.seat.session ≡ seat.session }
         ensures reads { Reads seat.session (R.remaining reader) (R.remaining result.0.inner) result.1.transcript result.1.ended seat.count result.1.seat.count }
         ensures faults { Faults result.1.ended 0 result.0.failures }
+        ensures bound { result.1.ended ≡ Bound → bound ≤ result.0.reads }
     {
         let mut reader = Counted::new(reader);
         let mut line = Line::new(self.alloc);
         let mut transcript = Transcript::new(self.alloc);
         let mut course = Course {
             piece: [0; PIECE],
+            bytes: 0,
             is_sealed: false,
             why: None,
         };

@@ -1,5 +1,6 @@
 //! The bytes of one direction of a line.
-ghost use Rattle.std.specs.Prelude.{◌≡◌, ◌++◌, ℕ, List, [], IfSome, OnErr};
+ghost use Rattle.std.specs.Prelude.{◌≡◌, ◌++◌, ℕ, List, [], IfSome, IfNone, OnOk};
+ghost use Rattle.jsp_line.specs.declared.transcript.Transcript.TheVariants.{Dropped, Whole};
 ghost use Rattle.jsp_line.specs.Bytes.{IsTranscript};
 
 use jsp_types::NoMemory;
@@ -23,7 +24,8 @@ impl Transcript {
 
     /// Adds bytes. Where there is no memory for them, all are dropped.
     pub(crate) fn add(&mut self, bytes: &[u8]) -> Result<(), NoMemory>
-        ensures { (all : List ℕ) → IsTranscript self.old all → IsTranscript self.new (all ++ bytes.now) }
+        ensures added { (all : List ℕ) → IsTranscript self.old all → IsTranscript self.new (all ++ bytes.now) }
+        ensures kept { OnOk result (self.new ≡ Dropped → self.old ≡ Dropped) }
     {
         let added = match self {
             Transcript::Whole(whole) => whole.extend_from_slice(bytes),
@@ -44,7 +46,8 @@ impl Transcript {
 
     /// The bytes, where they weren't dropped.
     pub fn into_bytes(self) -> Option<Vec<u8>>
-        ensures { (all : List ℕ) → IsTranscript self all → IfSome result (λ v. v.items ≡ all) }
+        ensures some { IfSome result (λ bytes. self ≡ Whole bytes) }
+        ensures none { IfNone result (self ≡ Dropped) }
     {
         match self {
             Transcript::Whole(bytes) => Some(bytes),

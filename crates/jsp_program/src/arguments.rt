@@ -24,6 +24,39 @@ pub(crate) const LINES: &str = "lines";
 /// The id of the length of an era.
 pub(crate) const ERA: &str = "era";
 
+/// The id of the number of connections to serve at once.
+pub(crate) const CONNECTIONS: &str = "connections";
+
+/// The id of the time after which an idle connection is closed.
+pub(crate) const IDLE: &str = "idle";
+
+/// The id of the flag that has standard input end the server.
+pub(crate) const UNTIL_INPUT: &str = "until-input";
+
+/// The id of the most bytes of an era.
+pub(crate) const ERA_BYTES: &str = "era-bytes";
+
+/// The most bytes of an era, a tebibyte, and how many they are where it isn't told, 64 MiB.
+pub(crate) const MOST_ERA_BYTES: u64 = 1 << 40;
+
+pub(crate) const USUAL_ERA_BYTES: u64 = 1 << 26;
+
+/// The id of how many answers may wait for a client.
+pub(crate) const BACKLOG: &str = "backlog";
+
+/// The most answers that may wait for a client, and how many they are where it isn't told.
+pub(crate) const MOST_BACKLOG: u64 = 1 << 32;
+
+pub(crate) const USUAL_BACKLOG: u64 = 65_536;
+
+/// The most connections at once, and how many they are where it isn't told.
+pub(crate) const MOST_CONNECTIONS: u64 = 4096;
+
+pub(crate) const USUAL_CONNECTIONS: u64 = 256;
+
+/// The longest time that a connection may be idle, in seconds: a year.
+pub(crate) const LONGEST_IDLE: u64 = 31_536_000;
+
 /// The most connections that one run serves, which is what it serves where it isn't told.
 pub(crate) const MOST_LINES: u64 = 1_000_000_000;
 
@@ -74,13 +107,44 @@ fn listen<'a>(alloc: Global) -> Result<Command<'a>, AllocError> {
             "How many steps of its history it keeps at most, some 300 bytes each [default: 131072]",
         )
         .value_parser(ValueParser::unsigned(1, LONGEST_ERA));
+    let connections = Arg::new(alloc, CONNECTIONS)
+        .long(CONNECTIONS)
+        .value_name("N")
+        .help("How many connections it serves at once; one above them is closed [default: 256]")
+        .value_parser(ValueParser::unsigned(1, MOST_CONNECTIONS));
+    let idle = Arg::new(alloc, IDLE)
+        .long(IDLE)
+        .value_name("SECONDS")
+        .help(
+            "Closes a connection that sends nothing, or reads nothing, for so long [default: never]",
+        )
+        .value_parser(ValueParser::unsigned(1, LONGEST_IDLE));
+    let until_input = Arg::new(alloc, UNTIL_INPUT)
+        .long(UNTIL_INPUT)
+        .help("Ends in order once standard input has a line or ends")
+        .action(ArgAction::SetTrue);
+    let era_bytes = Arg::new(alloc, ERA_BYTES)
+        .long(ERA_BYTES)
+        .value_name("BYTES")
+        .help("How many bytes of requests and answers it keeps at most [default: 67108864]")
+        .value_parser(ValueParser::unsigned(1, MOST_ERA_BYTES));
+    let backlog = Arg::new(alloc, BACKLOG)
+        .long(BACKLOG)
+        .value_name("N")
+        .help("Closes a connection for which more answers and events wait, unread [default: 65536]")
+        .value_parser(ValueParser::unsigned(1, MOST_BACKLOG));
     let address = Arg::new(alloc, ADDRESS)
         .help("Where to listen, as 127.0.0.1:7070; port 0 takes a free one")
         .required(true);
     Command::new(alloc, LISTEN)
         .about("Serves clients over TCP, and says where once it listens")
         .arg(lines)?
+        .arg(connections)?
+        .arg(idle)?
         .arg(era)?
+        .arg(era_bytes)?
+        .arg(backlog)?
+        .arg(until_input)?
         .arg(address)?
         .arg(names(alloc))
 }

@@ -1,54 +1,156 @@
 //! `jsp listen`: a server over TCP.
-use crate::arguments::{ADDRESS, ERA, LINES, LONGEST_ERA, MOST_LINES, USUAL_ERA};
+ghost use Rattle.std.specs.Prelude.{◌≤◌};
+
+use crate::arguments::{
+    ADDRESS, BACKLOG, CONNECTIONS, ERA, ERA_BYTES, IDLE, LINES, LONGEST_ERA, MOST_LINES,
+    UNTIL_INPUT, USUAL_BACKLOG, USUAL_CONNECTIONS, USUAL_ERA, USUAL_ERA_BYTES,
+};
+use crate::fault::Fault;
 use clap::ArgMatches;
-use jsp_serve::{Config, RunFault, serve};
-use std::io::{self, Write};
-use std::net::{Net, TcpListener, TcpStream};
+use jsp_serve::{Bounds, Closed, Config, Service, Stop, serve};
+use std::io::{self, ErrorKind, Read, Stdin, Write};
+use std::net::{Net, SocketAddr, TcpListener, TcpStream};
 use std::process::ExitCode;
 use std::random::RandomSource;
-use std::sync::Wait;
-use std::thread::Threads;
-use std::time::Clock;
+use std::sync::{Arc, Wait};
+use std::thread::{self, Threads};
+use std::time::{Clock, Duration};
 
-/// The status after a fault.
-const FAILED: u8 = 1;
+/// After how many milliseconds the connection that ends a server is tried again.
+const PAUSE: u64 = 50;
 
-/// Listens where it is told, says so, and serves.
-pub(crate) fn listen<
-    R: AllocGlobal
-        + Print
-        + Eprint
-        + Clock
-        + RandomSource
-        + Net<Listener = TcpListener, Stream = TcpStream>
-        + Threads
-        + Wait
-        + Sync,
->(rt: &R, config: &Config, given: &ArgMatches<'_>) -> io::Result<ExitCode> {
-    let address = given.get_str(ADDRESS).unwrap_or_default();
-    let lines = given.get_one::<u64>(LINES).unwrap_or(MOST_LINES);
-    let era = given.get_one::<u64>(ERA).unwrap_or(USUAL_ERA);
-    let Ok(listener) = TcpListener::bind(rt, address) else {
-        return fail(rt, "cannot listen");
-    };
-    if tell(rt, &listener).is_err() {
-        return fail(rt, "cannot write");
+/// A server that listens.
+#[derive(Drop)]
+pub(crate) struct Server {
+    listener: TcpListener,
+    config: Config,
+    service: Service,
+    stop: Arc<Stop>,
+    /// Whether standard input ends it.
+    until_input: bool,
+    ghost within: { (1 ≤ service.bounds.era) × (service.bounds.era ≤ 16777216) },
+}
+
+/// How a server is ended in order from outside.
+#[derive(Drop)]
+pub(crate) struct End {
+    address: SocketAddr,
+    stop: Arc<Stop>,
+}
+
+impl Server {
+    /// Listens where it is told.
+    pub(crate) fn listen<R: AllocGlobal + Net<Listener = TcpListener, Stream = TcpStream>>(
+        rt: &R,
+        config: Config,
+        given: &ArgMatches<'_>,
+    ) -> Result<Server, Fault> {
+        let address = given.get_str(ADDRESS).unwrap_or_default();
+        let listener = match TcpListener::bind(rt, address) {
+            Ok(listener) => listener,
+            Err(error) => return Err(Fault::Listen(error)),
+        };
+        let Ok(stop) = Arc::new(rt.alloc(), Stop::new()) else {
+            return Err(Fault::NoMemory);
+        };
+        Ok(Server {
+            listener,
+            config,
+            service: service(given),
+            stop,
+            until_input: given.get_flag(UNTIL_INPUT),
+        })
     }
-    let era = era.clamp(1, LONGEST_ERA);
-    match serve(rt, rt.alloc(), listener, lines, config, era) {
-        Ok(_) => Ok(ExitCode::SUCCESS),
-        Err(RunFault::NoMemory) => fail(rt, "out of memory"),
-        Err(RunFault::Spawn | RunFault::Audit) => fail(rt, "cannot serve"),
+
+    /// How standard input ends it, where it is to.
+    pub(crate) fn end(&self) -> Result<Option<End>, Fault> {
+        if !self.until_input {
+            return Ok(None);
+        }
+        let address = match self.listener.local_addr() {
+            Ok(address) => address,
+            Err(error) => return Err(Fault::Listen(error)),
+        };
+        let stop = Arc::try_clone(&self.stop)?;
+        Ok(Some(End { address, stop }))
+    }
+
+    /// Says where it listens, and serves. At its end it says on standard error what was compared.
+    pub(crate) fn serve<
+        R: AllocGlobal + Print + Eprint + Clock + RandomSource + Threads + Wait + Sync,
+    >(self, rt: &R) -> Result<ExitCode, Fault> {
+        let Server {
+            listener,
+            config,
+            service,
+            stop,
+            until_input: _,
+        } = self;
+        if say_where(rt, &listener).is_err() {
+            return Err(Fault::Write);
+        }
+        let closed = serve(rt, rt.alloc(), listener, &config, service, &*stop)?;
+        match say_compared(rt, &closed) {
+            Ok(()) => Ok(ExitCode::SUCCESS),
+            Err(_) => Err(Fault::Write),
+        }
+    }
+}
+
+impl End {
+    /// Waits for a line of the input or its end, and stops the server, which a connection wakes.
+    pub(crate) fn come<R: Clock + Net<Stream = TcpStream> + Wait>(self, rt: &R, input: Stdin) {
+        wait_for_line(rt, input);
+        self.stop.ask();
+        for _ in rt.forever() {
+            if TcpStream::connect(rt, self.address).is_ok() {
+                return;
+            }
+            thread::sleep(rt, Duration::from_millis(PAUSE));
+        }
+    }
+}
+
+/// How it is to serve.
+fn service(given: &ArgMatches<'_>) -> Service
+    ensures { (1 ≤ result.bounds.era) × (result.bounds.era ≤ 16777216) }
+{
+    let number = |id: &str, usual: u64| given.get_one::<u64>(id).unwrap_or(usual);
+    Service {
+        lines: number(LINES, MOST_LINES),
+        idle: given.get_one::<u64>(IDLE).map(Duration::from_secs),
+        bounds: Bounds {
+            lines: number(CONNECTIONS, USUAL_CONNECTIONS) as usize,
+            era: number(ERA, USUAL_ERA).clamp(1, LONGEST_ERA),
+            era_bytes: number(ERA_BYTES, USUAL_ERA_BYTES),
+            backlog: number(BACKLOG, USUAL_BACKLOG),
+        },
+    }
+}
+
+/// Reads until a line's end, or as far as can be read.
+fn wait_for_line<R: Wait>(rt: &R, input: Stdin) {
+    let mut input = input;
+    let mut byte = [0];
+    for _ in rt.forever() {
+        match input.read(&mut byte) {
+            Ok(1) if byte[0] != b'\n' => {}
+            Err(error) if error.kind() == ErrorKind::Interrupted => {}
+            _ => return,
+        }
     }
 }
 
 /// Says where it listens: the address that was bound, with the port that was found.
-fn tell(rt: &impl Print, listener: &TcpListener) -> io::Result<()> {
+fn say_where(rt: &impl Print, listener: &TcpListener) -> io::Result<()> {
     println!(rt; "listening {}", listener.local_addr()?)?;
     io::writer(rt).flush()
 }
 
-fn fail(rt: &impl Eprint, what: &str) -> io::Result<ExitCode> {
-    eprintln!(rt; "jsp: {what}")?;
-    Ok(ExitCode::from(FAILED))
+/// Says what of the history was compared with what the lines read and wrote.
+fn say_compared(rt: &impl Eprint, closed: &Closed) -> io::Result<()> {
+    match closed {
+        Closed::Whole { lines, .. } => eprintln!(rt; "jsp: compared {} lines", lines.len()),
+        Closed::Sealed { .. } => eprintln!(rt; "jsp: not compared: an era was sealed"),
+    }
 }

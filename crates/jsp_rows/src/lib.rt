@@ -10,6 +10,7 @@
 
 mod acting;
 mod answering;
+mod backlog;
 mod choosing;
 mod finishing;
 mod making;
@@ -21,7 +22,9 @@ mod settling;
 mod to_come;
 mod unquiet;
 
+pub use backlog::Backlog;
+pub use rows_house::RowsHouse;
+
 // What the calls of a house speak of, so that its callers name one crate.
 pub use jsp_audit::{ReplayFault, Replayed, empty_image, is_open, is_quiet, replay, replay_from};
 pub use jsp_model::{Config, House, Image, Input, Settled, Step, Stopped, Why};
-pub use rows_house::RowsHouse;

@@ -6,6 +6,7 @@ ghost use Rattle.jsp_quiet.specs.Props.{IsSteady-prop};
 
 use crate::acting::{act, make_ready};
 use crate::answering::{answer, close, next_waiting};
+use crate::backlog::Backlog;
 use crate::performing::clear;
 use crate::settling::{all_quiet, settle, turn};
 use jsp_audit::{empty_image, is_open};
@@ -136,5 +137,11 @@ impl House for RowsHouse {
 
     fn image(&self) -> Result<Image, NoMemory> {
         self.image.to_image(self.alloc)
+    }
+}
+
+impl Backlog for RowsHouse {
+    fn waiting(&self, session: u64) -> u64 {
+        self.image.state().outboxes.waiting(session)
     }
 }

@@ -1,5 +1,5 @@
 -- Why a script isn't run and printed whole, and what is told of it.
-use Rattle.std.specs.Prelude.{ℕ, ◌≡◌, ◌<◌, ◌≤◌, ◌^◌, Bool, List, [], ◌∷◌, ◌++◌, ⊤, IfSome, IsTrue, codes, decimal, length}
+use Rattle.std.specs.Prelude.{ℕ, ◌≡◌, ◌<◌, ◌≤◌, ◌^◌, Bool, true, false, List, [], ◌∷◌, ◌++◌, ⊤, IfSome, IsTrue, codes, decimal, length}
 use Rattle.std.specs.Io.KnownBytes.{Appends, Keeps}
 use Rattle.std.specs.declared.option.Option.{Option}
 use Rattle.jsp_serve.specs.declared.fault.ScriptFault.{ScriptFault}
@@ -27,6 +27,14 @@ pub record AppendsSome (old new : Option (List ℕ)) (text : List ℕ) : Type 0 
   pub rest : List ℕ
   pub text_is : text ≡ written ++ rest
   pub appends : Appends old new written
+
+-- known bytes grow by a beginning of the text that isn't all of it
+pub record AppendsPart (old new : Option (List ℕ)) (text : List ℕ) : Type 0 where
+  pub written : List ℕ
+  pub rest : List ℕ
+  pub text_is : text ≡ written ++ rest
+  pub appends : Appends old new written
+  pub missing : 0 < length rest
 
 -- ---- why
 
@@ -61,9 +69,10 @@ StopsBy spaces known old new fault.NoMemory = Keeps old new
 StopsBy spaces known old new fault.DoesNotReplay = ⊥
 StopsBy spaces known old new fault.CannotWrite = IfSome known (λ text. WroteSome spaces text old new)
 
--- A fault applies, and one line tells of it: the whole of it where that is claimed, and else a beginning.
+-- A fault applies, and one line tells of it: the whole of it where that is claimed, and else not the whole.
 pub record Fails (spaces : List (List ℕ)) (known old new told_old told_new : Option (List ℕ)) (is_told : Bool) : Type 0 where
   pub fault : ScriptFault
   pub stops : StopsBy spaces known old new fault
   pub line : AppendsSome told_old told_new (line_telling fault)
-  pub whole : IsTrue is_told → Appends told_old told_new (line_telling fault)
+  pub whole : is_told ≡ true → Appends told_old told_new (line_telling fault)
+  pub part : is_told ≡ false → AppendsPart told_old told_new (line_telling fault)

@@ -19,10 +19,12 @@ mod lines;
 mod print;
 mod run;
 mod server;
+mod stop;
 mod streams;
 mod writing;
 
-pub use jsp_floor::{Closed, RunFault};
+pub use jsp_floor::{Bounds, Closed, RunFault};
 pub use jsp_model::Config;
 pub use run::{Ending, Options, Status, script};
-pub use server::serve;
+pub use server::{Service, serve};
+pub use stop::Stop;

@@ -3,7 +3,8 @@ ghost use Rattle.std.specs.Prelude.{◌≤◌, IfOk};
 ghost use Rattle.jsp_closing.specs.Closing.{Closes};
 
 use crate::connections::Connections;
-use jsp_floor::{Clock, Closed, Gate, RunFault, run_house};
+use crate::stop::Stop;
+use jsp_floor::{Bounds, Clock, Closed, Gate, RunFault, run_house};
 use jsp_hall::Hall;
 use jsp_model::Config;
 use std::alloc::Global;
@@ -11,7 +12,7 @@ use std::net::TcpListener;
 use std::random::RandomSource;
 use std::sync::Wait;
 use std::thread::Threads;
-use std::time::{Clock as SystemClock, Instant};
+use std::time::{Clock as SystemClock, Duration, Instant};
 
 /// Holds nobody.
 struct Open;
@@ -20,6 +21,8 @@ impl Gate for Open {
     fn before(&self, _session: u64, _nth: u64) {}
 
     fn written(&self, _session: u64, _nth: u64) {}
+
+    fn cut(&self, _session: u64) {}
 }
 
 /// Milliseconds since the server began, or 0 where they can't be read.
@@ -41,19 +44,29 @@ impl<T: SystemClock> Clock for Uptime<'_, T> {
     }
 }
 
-/// Serves so many connections of the listener over the spaces of `config`, at most 256 at once, and
-/// ends when they have ended. An era of the history holds `era` steps, from 1 to 16,777,216: what the
-/// history takes of memory, a step being some 300 bytes where requests
-/// are short.
+/// How a server serves.
+#[derive(Clone, Copy, Debug, PartialEq, Eq)]
+pub struct Service {
+    /// How many connections there are before it ends.
+    pub lines: u64,
+    /// After how much time a connection on which nothing comes is closed, where one is.
+    pub idle: Option<Duration>,
+    /// How many are served at once, and what the history takes of memory: a step is some 300 bytes where requests are
+    /// short.
+    pub bounds: Bounds,
+}
+
+/// Serves the connections of the listener over the spaces of `config`, and ends when there were as many as
+/// `service` says and all have ended, or in order once it is asked to `stop`.
 pub fn serve<T: Threads + Wait + SystemClock + RandomSource + Sync>(
     rt: &T,
     alloc: Global,
     listener: TcpListener,
-    lines: u64,
     config: &Config,
-    era: u64,
+    service: Service,
+    stop: &Stop,
 ) -> Result<Closed, RunFault>
-    requires { (1 ≤ era) × (era ≤ 16777216) }
+    requires { (1 ≤ service.bounds.era) × (service.bounds.era ≤ 16777216) }
     ensures { IfOk result (Closes config.now) }
 {
     let Ok(house) = Hall::new(alloc, config, seed_of(rt)) else {
@@ -63,8 +76,17 @@ pub fn serve<T: Threads + Wait + SystemClock + RandomSource + Sync>(
         system: rt,
         start: Instant::now(rt).ok(),
     };
-    let connections = Connections::new(listener, lines);
-    run_house(rt, alloc, house, config, era, connections, &Open, &clock)
+    let connections = Connections::new(rt, alloc, listener, service, stop);
+    run_house(
+        rt,
+        alloc,
+        house,
+        config,
+        service.bounds,
+        connections,
+        &Open,
+        &clock,
+    )
 }
 
 /// A number that clients can't know, or 0 where the system gives none.

@@ -1,7 +1,7 @@
 //! Bytes to a writer that may fail, and the line that tells of a fault.
-ghost use Rattle.std.specs.Prelude.{◌++◌, IsTrue, codes, decimal};
+ghost use Rattle.std.specs.Prelude.{◌≡◌, ◌++◌, true, false, codes, decimal};
 ghost use Rattle.std.specs.Io.KnownBytes.{Appends};
-ghost use Rattle.jsp_serve.specs.Faults.{AppendsSome, line_telling};
+ghost use Rattle.jsp_serve.specs.Faults.{AppendsPart, AppendsSome, line_telling};
 
 use crate::fault::ScriptFault;
 use itoa::Buffer;
@@ -9,8 +9,9 @@ use std::io::{ErrorKind, Write};
 
 /// Writes the bytes, or where the writer fails a beginning of them, and answers whether it wrote all.
 pub(crate) fn write_bytes<W: Write>(out: &mut W, bytes: &[u8]) -> bool
-    ensures all { IsTrue result → Appends (W.contents out.old) (W.contents out.new) bytes.now }
+    ensures all { result ≡ true → Appends (W.contents out.old) (W.contents out.new) bytes.now }
     ensures some { AppendsSome (W.contents out.old) (W.contents out.new) bytes.now }
+    ensures part { result ≡ false → AppendsPart (W.contents out.old) (W.contents out.new) bytes.now }
 {
     let mut rest = bytes;
     'tries: for _ in 0..u64::MAX {
@@ -24,13 +25,14 @@ pub(crate) fn write_bytes<W: Write>(out: &mut W, bytes: &[u8]) -> bool
             Err(_) => return false,
         }
     }
-    false
+    rest.is_empty()
 }
 
 /// Tells of a fault by one line, without asking for memory, and answers whether it told all of it.
 pub(crate) fn tell<F: Write>(faults: &mut F, fault: ScriptFault) -> bool
-    ensures all { IsTrue result → Appends (F.contents faults.old) (F.contents faults.new) (line_telling fault) }
+    ensures all { result ≡ true → Appends (F.contents faults.old) (F.contents faults.new) (line_telling fault) }
     ensures some { AppendsSome (F.contents faults.old) (F.contents faults.new) (line_telling fault) }
+    ensures part { result ≡ false → AppendsPart (F.contents faults.old) (F.contents faults.new) (line_telling fault) }
 {
     match fault {
         ScriptFault::CannotRead => write_bytes(faults, b"jsp: cannot read\n"),
@@ -43,8 +45,9 @@ pub(crate) fn tell<F: Write>(faults: &mut F, fault: ScriptFault) -> bool
 }
 
 fn tell_line<F: Write>(faults: &mut F, number: u64) -> bool
-    ensures all { IsTrue result → Appends (F.contents faults.old) (F.contents faults.new) (codes "jsp: line " ++ decimal number ++ codes ": not understood\n") }
+    ensures all { result ≡ true → Appends (F.contents faults.old) (F.contents faults.new) (codes "jsp: line " ++ decimal number ++ codes ": not understood\n") }
     ensures some { AppendsSome (F.contents faults.old) (F.contents faults.new) (codes "jsp: line " ++ decimal number ++ codes ": not understood\n") }
+    ensures part { result ≡ false → AppendsPart (F.contents faults.old) (F.contents faults.new) (codes "jsp: line " ++ decimal number ++ codes ": not understood\n") }
 {
     let mut digits = Buffer::new();
     if !write_bytes(faults, b"jsp: line ") {

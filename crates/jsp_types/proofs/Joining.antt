@@ -167,14 +167,15 @@ inherited_are_short known (Some p) kept there =
 within_limits : (known : List Known) (c : Class) → AreKept known → IsAcceptable (classes_of known) c → is_within_limits c.name (inherited (classes_of known) c ++ c.fields) ≡ true
 within_limits known c kept fine =
     let classes : List Class = classes_of known in
-    let formed = and_parts (is_name c.name && list_all (λ f. is_name f.0) c.fields) (are_distinct c.fields) (not-false _ fine.well_formed) in
-    let named = and_parts (is_name c.name) (list_all (λ f. is_name f.0) c.fields) formed.0 in
+    let formed = and_parts (nat_le (length c.fields) 32 && is_name c.name && list_all (λ f. is_name f.0) c.fields) (are_distinct c.fields) (not-false _ fine.well_formed) in
+    let fields_named = and_parts (nat_le (length c.fields) 32 && is_name c.name) (list_all (λ f. is_name f.0) c.fields) formed.0 in
+    let named = and_parts (nat_le (length c.fields) 32) (is_name c.name) fields_named.0 in
     let there = parent_declared classes c.parent fine.parent in
     let few : length (inherited classes c ++ c.fields) ≤ 32 = fields_are_few classes c fine.limits in
     let short : are_short (inherited classes c ++ c.fields) ≡ true =
     list_all-append (λ f. nat_le (length f.0) 64) (inherited classes c) c.fields
-    ∙ and_from _ _ (inherited_are_short known c.parent kept there) (names_are_short c.fields named.1) in
-    and_from _ _ (and_from _ _ (name_is_short c.name named.0) (grind (arith, nat_tests))) short
+    ∙ and_from _ _ (inherited_are_short known c.parent kept there) (names_are_short c.fields fields_named.1) in
+    and_from _ _ (and_from _ _ (name_is_short c.name named.1) (grind (arith, nat_tests))) short
 
 -- ---- joining
 

@@ -8,7 +8,7 @@ use crate::names::{are_distinct, has_name, is_name};
 use crate::{Class, ClassFault, Classes, Kind, Text};
 
 /// How many fields a class may have with the inherited.
-const MOST_FIELDS: usize = 32;
+pub const MOST_FIELDS: usize = 32;
 /// How many may stand above a class.
 const MOST_ABOVE: usize = 15;
 /// How many classes may be declared.
@@ -21,12 +21,16 @@ fn have_names(fields: &[(Text, Kind)]) -> bool
     fields.iter().all(|field| is_name(field.0.as_str()))
 }
 
-/// Whether a name isn't one, or stands twice.
+/// Whether it has more fields than a class may have, a name isn't one, or a field's stands twice. How many there are is
+/// looked at first, so that no more than that are compared with one another.
 fn is_ill_formed(class: &Class) -> bool
     ensures { result ≡ is_ill_formed class.now }
 {
     let fields = class.fields.as_slice();
-    !(is_name(class.name.as_str()) && have_names(fields) && are_distinct(fields))
+    !(fields.len() <= MOST_FIELDS
+        && is_name(class.name.as_str())
+        && have_names(fields)
+        && are_distinct(fields))
 }
 
 /// Whether both are none, or both the same name.

@@ -27,6 +27,7 @@ mod value;
 pub use checking::{check_entry, check_template, entry_fault, template_fault};
 pub use class::{Class, ClassFault, DeclareError};
 pub use classes::Classes;
+pub use declaring::MOST_FIELDS;
 pub use entry::{Entry, EntryError, EntryFault, Raw, Template};
 pub use items::Items;
 pub use matching::matches;

@@ -1,5 +1,6 @@
-use Rattle.jsp_closing.specs.Asking.{HaveGiven}
+use Rattle.std.proofs.Common.{◌≡◌, map}
+use Rattle.jsp_closing.specs.Asking.{HaveGiven, unasked}
 use Rattle.jsp_closing.proofs.asking.ask_again.Given as goal
 
 abbrev pub invariant-loop-step : goal.invariant-loop-step
-invariant-loop-step l = HaveGiven l.reports l.lines.items l.asked.items
+invariant-loop-step l = HaveGiven l.reports l.lines.items l.asked.items × (map unasked l.asked.items ≡ map unasked l.yielded)

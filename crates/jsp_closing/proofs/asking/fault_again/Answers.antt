@@ -4,8 +4,8 @@ use Rattle.jsp_drive.specs.declared.hear.LineInput.TheVariants.{Fault}
 use Rattle.jsp_closing.proofs.Rereading.{give_asked}
 use Rattle.jsp_closing.proofs.asking.fault_again.Goals as goal
 
-pub returns-in-Fault : goal.returns-in-Fault
-returns-in-Fault c =
+pub returns-in-Fault-clause-gave : goal.returns-in-Fault-clause-gave
+returns-in-Fault-clause-gave c =
     let s = c.args.session in
     let id = c.in-Fault.id in
     let refusal = c.in-Fault.refusal in

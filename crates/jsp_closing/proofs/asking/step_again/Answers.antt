@@ -1,5 +1,5 @@
 use Rattle.jsp_closing.proofs.Rereading.{give_none, asks_none}
 use Rattle.jsp_closing.proofs.asking.step_again.Goals as goal
 
-pub returns-in_default : goal.returns-in_default
-returns-in_default c = give_none c.args.step _ (asks_none c.args.step c.in_default.not-Ask c.in_default.not-Fault)
+pub returns-in_default-clause-gave : goal.returns-in_default-clause-gave
+returns-in_default-clause-gave c = give_none c.args.step _ (asks_none c.args.step c.in_default.not-Ask c.in_default.not-Fault)

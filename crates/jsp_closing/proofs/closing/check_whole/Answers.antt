@@ -1,7 +1,4 @@
-use Rattle.std.proofs.Common.{◌≡◌, ap, sym, ◌∙◌, subst}
 use Rattle.std.proofs.lemmas.Result.{on_ok_weaker}
-use Rattle.jsp_model.specs.Lookup.{empty}
-use Rattle.jsp_model.specs.Runs.{state_after, said_in}
 use Rattle.jsp_closing.proofs.Ending.{is_right}
 use Rattle.jsp_closing.proofs.closing.check_whole.Goals as goal
 

@@ -4,4 +4,4 @@ use Rattle.jsp_floor.proofs.end.end.Goals as goal
 pub returns : goal.returns
 returns g c =
     let era = c.into_era.ensures in
-    rests_after c.into_era.result c.settle_all.new.kept era.base era.steps era.run c.holds.ensures.state c.in_ok-settle_all.ensures
+    rests_after c.args.config.now c.into_era.result c.settle_all.new.kept (c.is_of.ensures c.if-not-is_of.false) era.steps era.is_sealed c.holds.ensures c.in_ok-settle_all.ensures

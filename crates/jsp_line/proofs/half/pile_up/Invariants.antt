@@ -3,4 +3,4 @@ use Rattle.jsp_closing.specs.Bytes.{frames}
 use Rattle.jsp_line.proofs.half.pile_up.Given as goal
 
 abbrev pub invariant-loop-one : goal.invariant-loop-one
-invariant-loop-one l = l.pile.items ≡ l.initial.pile.items ++ frames (take l.one-index l.said)
+invariant-loop-one g l = l.pile.items ≡ l.initial.pile.items ++ frames (take l.one-index l.said)

@@ -21,7 +21,7 @@ invariant_of-self g c =
     let counts : CountsAsk (own_of acts.steps) s c.own_steps-by.result = rw (by, acts.own) (own_of_session st s c.args.input r of) in
     whole_by_ask _ _ _ _ acts.steps _ _ s c.own_steps-by.result c.self.invariant
     (record {
-      era = record { spaces = refl; base = refl; asked_before = refl; taken_before = refl; era = refl; is_sealed = refl };
+      era = record { spaces = refl; era = refl; is_sealed = refl };
       makes = acts.makes;
       room = c.act-result.ensures.room;
       bound = c.act-result.ensures.bound;
@@ -42,7 +42,7 @@ returns-clause-performs g c =
     let lawful = rw (← c.self.view_is, ← c.seat.view_is) at c.requires.lawful in
     let of = rw (← c.seat.view_is) at c.requires.of in
     let counts : CountsAsk (own_of acts.steps) s c.own_steps-by.result = rw (by, acts.own) (own_of_session st s c.args.input r of) in
-    rw (← c.self.view_is) (performs_in_era _ _ _ acts.steps _ (record { spaces = refl; base = refl; asked_before = refl; taken_before = refl; era = refl; is_sealed = refl }) acts.makes
+    rw (← c.self.view_is) (performs_in_era _ _ _ acts.steps _ (record { spaces = refl; era = refl; is_sealed = refl }) acts.makes
     (grows_by_ask _ _ _ s c.own_steps-by.result c.self.invariant.kept counts c.seat.invariant.2 (lawful_within _ _ _ lawful) c.raise.ensures c.add.ensures.total (record { taken = refl; book = refl }))
     acts.own acts.leaves)
 

@@ -13,7 +13,7 @@ invariant_of-self g c =
     let acts = c.act.ensures.acts in
     whole_quietly _ _ _ _ acts.steps _ _ c.self.invariant
     (record {
-      era = record { spaces = refl; base = refl; asked_before = refl; taken_before = refl; era = refl; is_sealed = refl };
+      era = record { spaces = refl; era = refl; is_sealed = refl };
       makes = acts.makes;
       room = c.act.ensures.room;
       bound = c.act.ensures.bound;
@@ -28,7 +28,7 @@ invariant_of-self g c =
 pub returns-clause-performs : goal.returns-clause-performs
 returns-clause-performs g c =
     let acts = c.act.ensures.acts in
-    rw (← c.self.view_is) (performs_in_era _ _ _ acts.steps _ (record { spaces = refl; base = refl; asked_before = refl; taken_before = refl; era = refl; is_sealed = refl }) acts.makes (grows_quietly _ _ _ c.self.invariant.kept (subst IsUncounted (sym acts.own) (clock_own (g.H.House.view c.self.inside.house) c.args.time c.act.result)) (record { asked = refl; book = refl }) (record { taken = refl; book = refl })) acts.own acts.leaves)
+    rw (← c.self.view_is) (performs_in_era _ _ _ acts.steps _ (record { spaces = refl; era = refl; is_sealed = refl }) acts.makes (grows_quietly _ _ _ c.self.invariant.kept (subst IsUncounted (sym acts.own) (clock_own (g.H.House.view c.self.inside.house) c.args.time c.act.result)) (record { asked = refl; book = refl }) (record { taken = refl; book = refl })) acts.own acts.leaves)
 
 pub returns-clause-why : goal.returns-clause-why
 returns-clause-why g c =

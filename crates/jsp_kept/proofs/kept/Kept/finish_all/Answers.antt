@@ -5,7 +5,7 @@ use Rattle.jsp_kept.proofs.Growing.{on_err, prepares_none, asks_none, outs_none,
 use Rattle.jsp_kept.proofs.kept.Kept.finish_all.Goals as goal
 
 pub eras-init : goal.eras-init
-eras-init g c = (prepares_none _, c.in_ok-make_place.ensures.place, asks_none _, outs_none _)
+eras-init g c = (prepares_none _, c.make_place.ensures.place, asks_none _, outs_none _)
 
 pub finish_in_era-requires : goal.finish_in_era-requires
 finish_in_era-requires g c = c.eras.invariant.1

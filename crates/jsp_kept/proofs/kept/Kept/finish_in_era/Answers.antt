@@ -13,7 +13,7 @@ invariant_of-self g c =
     let finishes = c.finish.ensures.finishes in
     whole_quietly _ _ _ _ finishes.steps _ _ c.self.invariant
     (record {
-      era = record { spaces = refl; base = refl; asked_before = refl; taken_before = refl; era = refl; is_sealed = refl };
+      era = record { spaces = refl; era = refl; is_sealed = refl };
       makes = finishes.makes;
       room = c.finish.ensures.room;
       bound = c.finish.ensures.bound;
@@ -28,7 +28,7 @@ invariant_of-self g c =
 pub returns-clause-performs : goal.returns-clause-performs
 returns-clause-performs g c =
     let finishes = c.finish.ensures.finishes in
-    rw (← c.self.view_is) (performs_in_era _ _ _ finishes.steps _ (record { spaces = refl; base = refl; asked_before = refl; taken_before = refl; era = refl; is_sealed = refl }) finishes.makes (grows_quietly _ _ _ c.self.invariant.kept (subst IsUncounted (sym finishes.own) none_counted) (record { asked = refl; book = refl }) (record { taken = refl; book = refl })) finishes.own finishes.leaves)
+    rw (← c.self.view_is) (performs_in_era _ _ _ finishes.steps _ (record { spaces = refl; era = refl; is_sealed = refl }) finishes.makes (grows_quietly _ _ _ c.self.invariant.kept (subst IsUncounted (sym finishes.own) none_counted) (record { asked = refl; book = refl }) (record { taken = refl; book = refl })) finishes.own finishes.leaves)
 
 pub returns-clause-nearer : goal.returns-clause-nearer
 returns-clause-nearer g c =

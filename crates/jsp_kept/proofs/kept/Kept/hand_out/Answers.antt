@@ -1,11 +1,8 @@
-use Rattle.std.proofs.Common.{◌≡◌, [], refl}
+use Rattle.std.proofs.Common.{[]}
 use Rattle.std.proofs.lemmas.Result.{IfOk-weaker}
 use Rattle.jsp_kept.proofs.Growing.{grows_then}
 use Rattle.jsp_kept.proofs.Passing.{err_then}
 use Rattle.jsp_kept.proofs.kept.Kept.hand_out.Goals as goal
-
-pub returns-in-Err-clause-err : goal.returns-in-Err-clause-err
-returns-in-Err-clause-err g c = (c.make_place.ensures.grows, c.make_place.ensures.outs, refl)
 
 pub returns-clause-steps : goal.returns-clause-steps
 returns-clause-steps g c = IfOk-weaker c.hand_out_in_era.result _ _ (λ v q. grows_then _ _ _ [] _ c.make_place.ensures.grows q) c.hand_out_in_era.ensures.steps

@@ -15,7 +15,7 @@ invariant_of-self-2 g c =
     let within : s - 1 < length c.self.inside.taken.items = lawful_within _ _ _ lawful in
     whole_by_out _ _ _ _ (handed_out s n) _ _ s n c.self.invariant
     (record {
-      era = record { spaces = refl; base = refl; asked_before = refl; taken_before = refl; era = refl; is_sealed = refl };
+      era = record { spaces = refl; era = refl; is_sealed = refl };
       makes = c.in_ok-answers.ensures.steps;
       room = c.hand_out.ensures.room;
       bound = c.hand_out.ensures.bound;
@@ -32,5 +32,5 @@ returns-clause-steps g c =
     let n = length c.in_ok-answers.answers.items in
     let count : c.len-count.result ≡ n = search rules in
     let lawful = rw (← c.self.view_is, ← c.seat.view_is) at c.requires.lawful in
-    rw (← c.self.view_is, ← c.seat.view_is) (grows_in_era _ _ (handed_out s n) (record { spaces = refl; base = refl; asked_before = refl; taken_before = refl; era = refl; is_sealed = refl }) c.in_ok-answers.ensures.steps
+    rw (← c.self.view_is, ← c.seat.view_is) (grows_in_era _ _ (handed_out s n) (record { spaces = refl; era = refl; is_sealed = refl }) c.in_ok-answers.ensures.steps
     (grows_by_out _ _ _ s n c.self.invariant.kept (hand_out_own s n) c.seat.invariant.2 (lawful_within _ _ _ lawful) (rw (← count) c.raise.ensures) (rw (← count) c.add.ensures.total) (record { asked = refl; book = refl })))

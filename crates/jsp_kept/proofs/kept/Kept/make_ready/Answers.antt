@@ -5,7 +5,7 @@ use Rattle.jsp_kept.proofs.Growing.{on_err, prepares_none, asks_none, outs_none,
 use Rattle.jsp_kept.proofs.kept.Kept.make_ready.Goals as goal
 
 pub eras-init : goal.eras-init
-eras-init g c = (prepares_none _, c.in_ok-make_place.ensures.place, asks_none _, outs_none _)
+eras-init g c = (prepares_none _, c.make_place.ensures.place, asks_none _, outs_none _)
 
 pub ready_in_era-requires : goal.ready_in_era-requires
 ready_in_era-requires g c = c.eras.invariant.1

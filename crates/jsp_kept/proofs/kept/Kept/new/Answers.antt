@@ -9,12 +9,9 @@ invariant_of-result g c =
     whole_new _ _
     (record {
       state = c.bound.ensures.view ∙ (c.requires.house ∙ ap empty same);
-      base = c.in_ok-base.ensures ∙ ap empty same;
-      asked_before = c.new.ensures.items;
-      taken_before = c.new-2.ensures.items;
-      steps = c.new-3.ensures.items;
-      asked = c.new-4.ensures.items;
-      taken = c.new-5.ensures.items;
+      steps = c.new.ensures.items;
+      asked = c.new-2.ensures.items;
+      taken = c.new-3.ensures.items;
       asks_book = c.open-asks.ensures.total;
       outs_book = c.open-outs.ensures.total;
     })

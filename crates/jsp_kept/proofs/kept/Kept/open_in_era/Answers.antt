@@ -17,7 +17,7 @@ invariant_of-self-in-Err-act g c =
     let none = subst IsUncounted (sym acts.own) (undone_counts st (input.Open c.args.session) (Err c.in-Err-act.stopped) c.in-Err-act.stopped refl c.in-Err-act.ensures.opens) in
     whole_quietly _ _ _ _ acts.steps _ _ c.self.invariant
     (record {
-      era = record { spaces = refl; base = refl; asked_before = refl; taken_before = refl; era = refl; is_sealed = refl };
+      era = record { spaces = refl; era = refl; is_sealed = refl };
       makes = acts.makes;
       room = c.act.ensures.room;
       bound = c.act.ensures.bound;
@@ -33,7 +33,7 @@ returns-in-Err-act-clause-performs g c =
     let acts = c.in-Err-act.ensures.acts in
     let st = g.H.House.view c.self.inside.house in
     let none = subst IsUncounted (sym acts.own) (undone_counts st (input.Open c.args.session) (Err c.in-Err-act.stopped) c.in-Err-act.stopped refl c.in-Err-act.ensures.opens) in
-    rw (← c.self.view_is) (performs_in_era _ _ _ acts.steps _ (record { spaces = refl; base = refl; asked_before = refl; taken_before = refl; era = refl; is_sealed = refl }) acts.makes
+    rw (← c.self.view_is) (performs_in_era _ _ _ acts.steps _ (record { spaces = refl; era = refl; is_sealed = refl }) acts.makes
     (grows_quietly _ _ _ c.self.invariant.kept none (record { asked = c.reserve_both.ensures.asked; book = refl }) (record { taken = c.reserve_both.ensures.taken; book = refl }))
     acts.own acts.leaves)
 
@@ -45,12 +45,12 @@ invariant_of-self-2 g c =
     let is : s ≡ st.last_session + 1 = rw (← c.self.view_is) at c.requires.next in
     let low : st.last_session < 2 ^ 31 = omega (arith, is, c.requires.most) in
     let own = acts.own ∙ opens_only st s (Ok tt) (accepts_next st s is low) refl in
-    whole_begun _ _ _ _ acts.steps s c.self.invariant (record { spaces = refl; base = refl; asked_before = refl; taken_before = refl; era = refl; is_sealed = refl }) acts.makes own
+    whole_begun _ _ _ _ acts.steps s c.self.invariant (record { spaces = refl; era = refl; is_sealed = refl }) acts.makes own
     (grows_by_open _ _ s c.self.invariant.kept is
     (c.push_reserved.ensures.items ∙ ap (λ xs. xs ++ 0 ∷ []) c.reserve_both.ensures.asked) refl
     (c.push_reserved-2.ensures.items ∙ ap (λ xs. xs ++ 0 ∷ []) c.reserve_both.ensures.taken) refl)
     is
-    (stays_within _ _ _ _ acts.steps _ _ c.self.invariant (record { spaces = refl; base = refl; asked_before = refl; taken_before = refl; era = refl; is_sealed = refl }) acts.makes (rw own refl) c.act.ensures.room c.act.ensures.bound (search rules) (search rules) refl)
+    (stays_within _ _ _ _ acts.steps _ _ c.self.invariant (record { spaces = refl; era = refl; is_sealed = refl }) acts.makes (rw own refl) c.act.ensures.room c.act.ensures.bound (search rules) (search rules) refl)
     c.split_off.ensures.parts_left c.split_off-2.ensures.parts_left c.split_off.ensures.amount_left c.split_off-2.ensures.amount_left
     c.self.invariant.asks_sum c.self.invariant.outs_sum
 
@@ -62,13 +62,13 @@ returns-clause-performs g c =
     let is : s ≡ st.last_session + 1 = rw (← c.self.view_is) at c.requires.next in
     let low : st.last_session < 2 ^ 31 = omega (arith, is, c.requires.most) in
     let own = acts.own ∙ opens_only st s (Ok tt) (accepts_next st s is low) refl in
-    rw (← c.self.view_is) (performs_begun _ _ _ acts.steps s _ c.self.invariant.kept (record { spaces = refl; base = refl; asked_before = refl; taken_before = refl; era = refl; is_sealed = refl }) acts.makes own is
+    rw (← c.self.view_is) (performs_begun _ _ _ acts.steps s _ c.self.invariant.kept (record { spaces = refl; era = refl; is_sealed = refl }) acts.makes own is
     (c.push_reserved.ensures.items ∙ ap (λ xs. xs ++ 0 ∷ []) c.reserve_both.ensures.asked) refl
     (c.push_reserved-2.ensures.items ∙ ap (λ xs. xs ++ 0 ∷ []) c.reserve_both.ensures.taken) refl
     acts.own acts.leaves)
 
 pub returns-in-Err-clause-performs : goal.returns-in-Err-clause-performs
 returns-in-Err-clause-performs g c =
-    rw (← c.self.view_is, c.unmade.ensures) (performs_in_era _ _ _ [] _ (record { spaces = refl; base = refl; asked_before = refl; taken_before = refl; era = refl; is_sealed = refl }) (Makes-none _ _)
+    rw (← c.self.view_is, c.unmade.ensures) (performs_in_era _ _ _ [] _ (record { spaces = refl; era = refl; is_sealed = refl }) (Makes-none _ _)
     (grows_quietly _ _ _ c.self.invariant.kept none_counted (record { asked = c.reserve_both.ensures.asked; book = refl }) (record { taken = c.reserve_both.ensures.taken; book = refl }))
     (sym (undone_own (g.H.House.view c.self.inside.house) (input.Open c.args.session) (Err (no_memory false)) refl)) (covers_itself (g.H.House.debt c.self.inside.house)))

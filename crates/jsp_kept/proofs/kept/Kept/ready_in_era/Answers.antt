@@ -13,7 +13,7 @@ invariant_of-self g c =
     let goes = c.make_ready.ensures.goes in
     whole_quietly _ _ _ _ goes.steps _ _ c.self.invariant
     (record {
-      era = record { spaces = refl; base = refl; asked_before = refl; taken_before = refl; era = refl; is_sealed = refl };
+      era = record { spaces = refl; era = refl; is_sealed = refl };
       makes = goes.makes;
       room = c.make_ready.ensures.room;
       bound = c.make_ready.ensures.bound;
@@ -28,7 +28,7 @@ invariant_of-self g c =
 pub returns-clause-prepares : goal.returns-clause-prepares
 returns-clause-prepares g c =
     let goes = c.make_ready.ensures.goes in
-    rw (← c.self.view_is) (prepares_in_era _ _ (record { spaces = refl; base = refl; asked_before = refl; taken_before = refl; era = refl; is_sealed = refl }) goes (grows_quietly _ _ _ c.self.invariant.kept (subst IsUncounted (sym goes.own) none_counted) (record { asked = refl; book = refl }) (record { taken = refl; book = refl })))
+    rw (← c.self.view_is) (prepares_in_era _ _ (record { spaces = refl; era = refl; is_sealed = refl }) goes (grows_quietly _ _ _ c.self.invariant.kept (subst IsUncounted (sym goes.own) none_counted) (record { asked = refl; book = refl }) (record { taken = refl; book = refl })))
 
 pub returns-clause-nearer : goal.returns-clause-nearer
 returns-clause-nearer g c =

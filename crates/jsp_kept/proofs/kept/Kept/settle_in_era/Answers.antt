@@ -14,7 +14,7 @@ invariant_of-self g c =
     let settles = c.settle.ensures.settles in
     whole_quietly _ _ _ _ settles.steps _ _ c.self.invariant
     (record {
-      era = record { spaces = refl; base = refl; asked_before = refl; taken_before = refl; era = refl; is_sealed = refl };
+      era = record { spaces = refl; era = refl; is_sealed = refl };
       makes = settles.makes;
       room = c.settle.ensures.room;
       bound = c.settle.ensures.bound;
@@ -29,7 +29,7 @@ invariant_of-self g c =
 pub returns-clause-performs : goal.returns-clause-performs
 returns-clause-performs g c =
     let settles = c.settle.ensures.settles in
-    rw (← c.self.view_is) (performs_in_era _ _ _ settles.steps _ (record { spaces = refl; base = refl; asked_before = refl; taken_before = refl; era = refl; is_sealed = refl }) settles.makes (grows_quietly _ _ _ c.self.invariant.kept (subst IsUncounted (sym settles.own) (settle_own (g.H.House.view c.self.inside.house) c.settle.result)) (record { asked = refl; book = refl }) (record { taken = refl; book = refl })) settles.own (outcome_leaves c.settle.result _ _ _ settles.leaves))
+    rw (← c.self.view_is) (performs_in_era _ _ _ settles.steps _ (record { spaces = refl; era = refl; is_sealed = refl }) settles.makes (grows_quietly _ _ _ c.self.invariant.kept (subst IsUncounted (sym settles.own) (settle_own (g.H.House.view c.self.inside.house) c.settle.result)) (record { asked = refl; book = refl }) (record { taken = refl; book = refl })) settles.own (outcome_leaves c.settle.result _ _ _ settles.leaves))
 
 pub returns-clause-answers : goal.returns-clause-answers
 returns-clause-answers g c = rw (← c.self.view_is) c.settle.ensures.settles.answers

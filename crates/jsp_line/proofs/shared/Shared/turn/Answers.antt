@@ -1,4 +1,4 @@
-use Rattle.jsp_line.proofs.Turning.{ends_reading, goes_turn, no_fault}
+use Rattle.jsp_line.proofs.Turning.{ends_reading, goes_turn, no_fault, not_at_bound}
 use Rattle.jsp_line.proofs.shared.Shared.turn.Goals as goal
 
 pub returns-in-Some-clause-reads : goal.returns-in-Some-clause-reads
@@ -17,3 +17,9 @@ returns-else-course-clause-reads g c = λ start n on.
 
 pub returns-else-course-clause-faults : goal.returns-else-course-clause-faults
 returns-else-course-clause-faults g c = no_fault c.act_all-ended.result _ _ c.act_all-ended.ensures.early c.in_default.ensures.faults
+
+pub returns-then-course-clause-not_bound : goal.returns-then-course-clause-not_bound
+returns-then-course-clause-not_bound g c = not_at_bound c.act_all-ended.result c.act_all-ended.ensures.early
+
+pub returns-else-course-clause-not_bound : goal.returns-else-course-clause-not_bound
+returns-else-course-clause-not_bound g c = not_at_bound c.act_all-ended.result c.act_all-ended.ensures.early

@@ -1,7 +1,7 @@
 use Rattle.std.proofs.Common.{ap}
 use Rattle.jsp_kept.specs.History.{Place}
 use Rattle.jsp_line.proofs.Writing.{half_put}
-use Rattle.jsp_line.proofs.half.OutHalf.take.Goals as goal
+use Rattle.jsp_line.proofs.half.OutHalf.take_once.Goals as goal
 
 pub invariant_of-self : goal.invariant_of-self
 invariant_of-self g c =

@@ -1,0 +1,129 @@
+//! The lines that are being served.
+use crate::served::Served;
+use jsp_closing::RunFault;
+use jsp_kept::Backlog;
+use jsp_line::{Floor, Hangup, LineDone};
+use jsp_model::Why;
+use std::alloc::Global;
+use std::io::{Read, Write};
+use std::sync::ledger::Ledger;
+use std::sync::{Arc, Condvar, Mutex, Wait};
+
+// A line that is being served.
+#[derive(Drop)]
+struct Line<X> {
+    session: u64,
+    hangup: Arc<X>,
+}
+
+// The lines that are being served, and what those that have ended answered.
+#[derive(Drop)]
+struct Progress<X> {
+    lines: Vec<Line<X>>,
+    served: Served,
+}
+
+/// The lines that are being served, so many at most, and what those that have ended answered.
+#[derive(Drop)]
+pub(crate) struct Lines<X> {
+    most: usize,
+    progress: Mutex<Progress<X>>,
+    /// Signalled when none is served any more.
+    none: Condvar,
+}
+
+impl<X: Hangup + Drop> Lines<X> {
+    pub(crate) fn new(alloc: Global, most: usize) -> Lines<X> {
+        Lines {
+            most,
+            progress: Mutex::new(Progress {
+                lines: Vec::new(alloc),
+                served: Served::new(alloc),
+            }),
+            none: Condvar::new(),
+        }
+    }
+
+    /// Whether as many lines are served as may be at once.
+    pub(crate) fn is_full<T: Wait>(&self, rt: &T) -> bool {
+        self.progress.lock(rt).lines.len() >= self.most
+    }
+
+    /// A line begins to be served. No where there is no memory to note it.
+    pub(crate) fn enter<T: Wait>(&self, rt: &T, session: u64, hangup: &Arc<X>) -> bool {
+        let Ok(hangup) = Arc::try_clone(hangup) else {
+            return false;
+        };
+        let line = Line { session, hangup };
+        self.progress.lock(rt).lines.push(line).is_ok()
+    }
+
+    /// A line has ended.
+    pub(crate) fn leave<A: Ledger, O: Ledger, R: Read + Drop, W: Write + Drop, T: Wait>(
+        &self,
+        rt: &T,
+        done: LineDone<A, O, R, W>,
+    ) {
+        let session = done.read.seat.session();
+        let mut progress = self.progress.lock(rt);
+        progress.served.add_line(done);
+        progress.lines.retain(|line| line.session != session);
+        if progress.lines.is_empty() {
+            self.none.notify_all();
+        }
+    }
+
+    /// Shuts the sessions of all lines that are served, so that these end.
+    pub(crate) fn shut_all<H: Backlog, A: Ledger, O: Ledger, T: Wait>(
+        &self,
+        rt: &T,
+        floor: &Floor<H, A, O>,
+    ) {
+        let progress = self.progress.lock(rt);
+        for line in progress.lines.as_slice() {
+            floor.shut(rt, line.session);
+        }
+    }
+
+    /// Ends the connection of the session's line, if it is still served.
+    pub(crate) fn hang_up<T: Wait>(&self, rt: &T, session: u64) {
+        let progress = self.progress.lock(rt);
+        for line in progress.lines.as_slice() {
+            if line.session == session {
+                line.hangup.hang_up();
+            }
+        }
+    }
+
+    /// Notes a fault that was met beside the lines.
+    pub(crate) fn fail<T: Wait>(&self, rt: &T, fault: RunFault) {
+        self.progress.lock(rt).served.fail(fault);
+    }
+
+    /// Notes why a call beside the lines was stopped, where one was.
+    pub(crate) fn stop<T: Wait>(&self, rt: &T, why: Option<Why>) {
+        self.progress.lock(rt).served.stop(why);
+    }
+
+    /// Waits until no line is served.
+    pub(crate) fn wait_for_none<T: Wait>(&self, rt: &T) {
+        let mut progress = self.progress.lock(rt);
+        for _ in rt.forever() {
+            if progress.lines.is_empty() {
+                return;
+            }
+            progress = self.none.wait(rt, progress);
+        }
+    }
+
+    /// What all lines answered, once all threads have ended.
+    pub(crate) fn into_served(self) -> Served {
+        let Lines {
+            most: _,
+            progress,
+            none: _,
+        } = self;
+        let Progress { lines: _, served } = progress.into_inner();
+        served
+    }
+}

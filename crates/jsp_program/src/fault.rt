@@ -1,0 +1,53 @@
+//! Why the program ends without its work done.
+use jsp_serve::RunFault;
+use std::alloc::AllocError;
+use std::io;
+use std::process::ExitCode;
+use thiserror::Error;
+
+/// Why the program ends without its work done, in the words that follow `jsp: ` on standard error.
+#[derive(Debug, Drop, Error)]
+pub(crate) enum Fault {
+    #[error("arguments cannot be read")]
+    Arguments,
+    #[error("bad space name")]
+    BadName,
+    #[error("out of memory")]
+    NoMemory,
+    #[error("cannot listen: {0}")]
+    Listen(io::Error),
+    #[error("cannot write")]
+    Write,
+    #[error("cannot serve")]
+    Serve,
+    #[error("its history isn't that of what its lines read and wrote")]
+    Audit,
+}
+
+impl Fault {
+    /// The status that the program ends with: 2 where the arguments can't be used, 3 where a history differs, and
+    /// else 1.
+    pub(crate) fn status(&self) -> ExitCode {
+        ExitCode::from(match self {
+            Fault::Arguments | Fault::BadName => 2,
+            Fault::Audit => 3,
+            Fault::NoMemory | Fault::Listen(_) | Fault::Write | Fault::Serve => 1,
+        })
+    }
+}
+
+impl From<AllocError> for Fault {
+    fn from(_error: AllocError) -> Fault {
+        Fault::NoMemory
+    }
+}
+
+impl From<RunFault> for Fault {
+    fn from(fault: RunFault) -> Fault {
+        match fault {
+            RunFault::NoMemory => Fault::NoMemory,
+            RunFault::Spawn => Fault::Serve,
+            RunFault::Audit => Fault::Audit,
+        }
+    }
+}

@@ -1,0 +1,207 @@
+"""The program where memory or threads are refused, growth by growth and thread by thread.
+
+    python3 refuse.py CASE LIBRARY PROGRAM..
+
+LIBRARY is `refuse.c` compiled, and PROGRAM.. the command. `refuse.py cases` lists the cases. A case prints nothing where
+all is as it should be.
+"""
+import mmap
+import os
+import struct
+import subprocess
+import sys
+import tempfile
+import threading
+import time
+from pathlib import Path
+
+TESTS = Path(__file__).parent
+sys.path.insert(0, str(TESTS.parent / "clients"))
+from jsp import Client, Refused, entry  # noqa: E402
+
+SECONDS = 60
+GROWTHS, THREADS = 0, 24  # where the control file has the three numbers of each
+MANY = 2**62
+
+
+class Refusing:
+    """A program that runs with the library, and the file that says what is refused."""
+
+    def __init__(self, library, program):
+        self.file = tempfile.NamedTemporaryFile()
+        self.file.write(bytes(48))
+        self.file.flush()
+        self.control = mmap.mmap(self.file.fileno(), 48)
+        self.program = program
+        self.environment = {**os.environ, "LD_PRELOAD": library, "REFUSE": self.file.name}
+
+    def refuse(self, kind, first, many=1):
+        """Counts anew, and refuses so many from the first one on; none where the first is 0."""
+        self.control[kind : kind + 24] = struct.pack("=QQQ", 0, first, many)
+
+    def count(self, kind):
+        return struct.unpack_from("=Q", self.control, kind)[0]
+
+    def run(self, text, *words):
+        """What it prints, what it says on standard error, and its status."""
+        ran = subprocess.run(
+            [*self.program, *words], input=text, capture_output=True, env=self.environment, timeout=SECONDS
+        )
+        return ran.stdout, ran.stderr, ran.returncode
+
+    def listen(self, *words):
+        """A server, and its address."""
+        server = subprocess.Popen(
+            [*self.program, "listen", *words, "127.0.0.1:0", "a", "b"],
+            stdin=subprocess.PIPE,
+            stdout=subprocess.PIPE,
+            stderr=subprocess.PIPE,
+            env=self.environment,
+        )
+        host, port = server.stdout.readline().split()[1].decode().rsplit(":", 1)
+        return server, (host, int(port))
+
+
+def scripts(refusing):
+    """Each growth of a script is refused: it prints what it prints else, or nothing and that memory is wanting."""
+    names = ["events", "leases", "listing", "subclasses", "transfer", "workers"]
+    for name in names:
+        text = (TESTS.parent / f"{name}.script").read_bytes()
+        printed = (TESTS.parent / f"{name}.expected").read_bytes()
+        wanted = {(printed, b"", 0), (b"", b"jsp: out of memory\n", 1)}
+        growth, last = 0, 1
+        while growth < last:
+            growth += 1
+            refusing.refuse(GROWTHS, growth)
+            ran = refusing.run(text, "script", "a", "b")
+            assert ran in wanted, (name, growth, ran)
+            last = refusing.count(GROWTHS)
+        assert growth > 1_000, growth
+
+
+def until_cut(work):
+    """Does the work, as far as its line goes. A request that brings neither an answer nor an end of the line fails."""
+    try:
+        work()
+    except ConnectionError:
+        pass
+
+
+def connect(address):
+    client = Client(*address)
+    client.socket.settimeout(SECONDS)
+    return client
+
+
+class Course:
+    """What two clients do in a round: an entry goes from one to the other, and another moves between the spaces."""
+
+    def __init__(self, address, number):
+        self.address = address
+        self.job, self.coin = entry("Job", k=number), entry("Coin", k=number)
+        self.is_written = self.is_taken = self.is_moved = False
+        self.txn = None
+
+    def first(self):
+        with connect(self.address) as jsp:
+            jsp.declare("Job", k="int")
+            jsp.declare("Coin", k="int")
+            jsp.write("a", self.coin)
+            jsp.write("a", self.job)
+            self.is_written = True
+            jsp.notify("b", self.coin, lease=1_000)
+            list(jsp.contents("a", self.job))
+            with jsp.transaction() as self.txn:
+                jsp.take("a", self.coin, txn=self.txn)
+                jsp.write("b", self.coin, txn=self.txn)
+            self.is_moved = True
+
+    def second(self):
+        with connect(self.address) as jsp:
+            self.is_taken = jsp.take("a", self.job, timeout=10) is not None
+
+    def check(self):
+        """A third client finds just what the two were told."""
+        with connect(self.address) as jsp:
+            jsp.declare("Job", k="int")
+            jsp.declare("Coin", k="int")
+            is_left = jsp.take("a", self.job) is not None
+            assert not (self.is_taken and is_left), "an entry was taken twice"
+            assert self.is_taken or is_left or not self.is_written, "an entry was lost"
+            spaces = self.coins(jsp)
+            assert len(spaces) == 1 or not self.is_written, f"a transfer left its coin in {spaces}"
+            assert spaces == ["b"] or not self.is_moved, "a commit was lost"
+
+    def coins(self, jsp):
+        """In which spaces the coin is, once the transaction has ended."""
+        if self.txn and not self.is_moved:
+            try:
+                jsp.call("abort", txn=self.txn)
+            except Refused:
+                pass
+        spaces = []
+        for _ in range(100):
+            spaces += [space for space in "ab" if jsp.take(space, self.coin)]
+            if spaces or not self.is_written:
+                break
+            time.sleep(0.01)
+        return spaces
+
+
+def served(refusing):
+    """Each growth of a served course is refused: what is answered is so, and the others are served."""
+    server, address = refusing.listen()
+    growth, last = 0, 1
+    while growth < last:
+        growth += 1
+        course = Course(address, growth)
+        refusing.refuse(GROWTHS, growth)
+        until_cut(course.first)
+        until_cut(course.second)
+        last = refusing.count(GROWTHS)
+        refusing.refuse(GROWTHS, 0)
+        course.check()
+    assert growth > 300, growth
+    server.kill()
+
+
+def famine(refusing):
+    """From some growth on all are refused for a while: who met it is answered late or cut, and then all is as was told."""
+    server, address = refusing.listen()
+    for growth in range(1, 200, 5):
+        course = Course(address, growth)
+        refusing.refuse(GROWTHS, growth, MANY)
+        end = threading.Timer(0.1, refusing.refuse, (GROWTHS, 0))
+        end.start()
+        until_cut(course.first)
+        until_cut(course.second)
+        end.join()
+        assert refusing.count(GROWTHS) > 0
+        course.check()
+    server.kill()
+
+
+def threads(refusing):
+    """Threads are refused: a line does without its second one, and the door waits for the first."""
+    for first in range(1, 6):
+        server, address = refusing.listen("--until-input")
+        course = Course(address, 0)
+        course.first()
+        refusing.refuse(THREADS, first, 3)
+        for number in (1, 2):
+            course = Course(address, number)
+            course.first()
+            course.second()
+            course.check()
+        assert refusing.count(THREADS) >= first + 3
+        said = server.communicate(b"\n", SECONDS)[1]
+        assert (said, server.returncode) == (b"jsp: compared 7 lines\n", 0), (said, server.returncode)
+
+
+CASES = {case.__name__: case for case in (scripts, served, famine, threads)}
+
+if __name__ == "__main__":
+    if sys.argv[1] == "cases":
+        print(*CASES, sep="\n")
+    else:
+        CASES[sys.argv[1]](Refusing(sys.argv[2], sys.argv[3:]))

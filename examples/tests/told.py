@@ -1,0 +1,101 @@
+"""Clients that are told what others cause, or the clock alone.
+
+    python3 told.py CASE HOST:PORT
+
+Each case is run against a server of its own, and prints nothing where all is as it should be. `told.py cases` lists them,
+with how many connections each opens.
+"""
+import json
+import socket
+import struct
+import sys
+import time
+from contextlib import ExitStack
+from pathlib import Path
+
+sys.path.insert(0, str(Path(__file__).parent.parent / "clients"))
+from jsp import Client, entry  # noqa: E402
+
+SECONDS = 60
+
+
+def connect(address):
+    client = Client(*address)
+    client.socket.settimeout(SECONDS)
+    return client
+
+
+def write_all(client, keys):
+    for at in range(0, len(keys), 64):
+        client.call("write_all", space="a", entries=[entry("Job", k=key) for key in keys[at : at + 64]], lease=10**9)
+
+
+def a_wait_ends_by_the_clock_alone(address):
+    """Its time ends while nobody acts."""
+    with connect(address) as jsp:
+        jsp.declare("Job", k="int")
+        began = time.monotonic()
+        assert jsp.take("a", entry("Job", k=1), timeout=300) is None
+        assert time.monotonic() - began >= 0.3
+
+
+def each_line_is_woken(address):
+    """Forty takes wait, each on a line of its own, and one request answers them all."""
+    with ExitStack() as stack:
+        clients = [stack.enter_context(connect(address)) for _ in range(40)]
+        clients[0].declare("Job", k="int")
+        waits = []
+        for key, client in enumerate(clients):
+            waits.append(client.send("take", space="a", template=entry("Job", k=key), timeout=10**9, txn=None))
+            assert client.call("spaces") == ["a", "b"]
+        with connect(address) as other:
+            write_all(other, range(39, -1, -1))
+        for key, client in enumerate(clients):
+            assert client.wait(waits[key]) == entry("Job", k=key)
+
+
+def events_go_out_before_the_end(address):
+    """A session closes itself while far more is waiting for it than is handed out at once."""
+    keys = [entry("Job", k=key) for key in range(64)]
+    asked = [
+        {"op": "hello", "version": 2},
+        {"op": "declare", "class": "Job", "parent": None, "fields": {"k": "int"}},
+        {"op": "notify", "space": "a", "template": entry("Job"), "lease": 10**9, "handback": ""},
+        *[{"op": "write_all", "space": "a", "entries": keys, "lease": 10**9}] * 4,
+        {"op": "bye"},
+    ]
+    payloads = [json.dumps({"id": number, **request}).encode() for number, request in enumerate(asked)]
+    with socket.create_connection(address, SECONDS) as stream:
+        stream.sendall(b"".join(struct.pack(">I", len(payload)) + payload for payload in payloads))
+        said = []
+        with stream.makefile("rb") as frames:
+            while length := frames.read(4):
+                said.append(json.loads(frames.read(*struct.unpack(">I", length))))
+    assert [one["id"] for one in said if "id" in one] == list(range(len(asked)))
+    assert [one["event"]["seq"] for one in said if "event" in one] == list(range(1, 257))
+
+
+def one_who_reads_late(address):
+    """Ten thousand events are told to a client that reads none until the last is written."""
+    with connect(address) as late, connect(address) as other:
+        other.declare("Job", k="int")
+        late.notify("a", entry("Job"))
+        write_all(other, range(10_000))
+        for number in range(1, 10_001):
+            assert late.event(SECONDS)["seq"] == number
+
+
+CASES = {
+    a_wait_ends_by_the_clock_alone: 1,
+    each_line_is_woken: 41,
+    events_go_out_before_the_end: 1,
+    one_who_reads_late: 2,
+}
+
+if __name__ == "__main__":
+    if sys.argv[1] == "cases":
+        for case, connections in CASES.items():
+            print(case.__name__, connections)
+    else:
+        host, port = sys.argv[2].rsplit(":", 1)
+        globals()[sys.argv[1]]((host, int(port)))
