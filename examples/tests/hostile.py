@@ -147,12 +147,15 @@ def sends_what_is_refused(address):
 
 def declares_what_a_frame_holds(address):
     """Classes of 79,000 fields are refused at once, though no two of the fields are alike."""
-    fields = ",".join(f'"{number:x}":"int"' for number in range(79_000))
-    with socket.create_connection(address, SECONDS) as stream:
-        for number in range(30):
-            stream.sendall(frame(f'{{"id":{number},"op":"declare","class":"Job","fields":{{{fields}}}}}'.encode()))
-            answer = frame(f'{{"fault":6,"id":{number}}}'.encode())
-            assert received(stream, len(answer)) == answer
+    fields = {f"{number:x}": "int" for number in range(79_000)}
+    with Client(*address) as jsp:
+        jsp.socket.settimeout(SECONDS)
+        for _ in range(30):
+            try:
+                jsp.declare("Job", **fields)
+                raise AssertionError("a class was not refused")
+            except Refused as refused:
+                assert refused.number == 6
     is_served(address)
 
 

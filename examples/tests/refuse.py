@@ -69,22 +69,23 @@ def scripts(refusing):
         text = (TESTS.parent / f"{name}.script").read_bytes()
         printed = (TESTS.parent / f"{name}.expected").read_bytes()
         wanted = {(printed, b"", 0), (b"", b"jsp: out of memory\n", 1)}
-        growth, last = 0, 1
-        while growth < last:
-            growth += 1
+        refusing.refuse(GROWTHS, 0)
+        assert refusing.run(text, "script", "a", "b") == (printed, b"", 0), name
+        growths = refusing.count(GROWTHS)
+        assert growths > 500, (name, growths)
+        for growth in range(1, growths + 1):
             refusing.refuse(GROWTHS, growth)
             ran = refusing.run(text, "script", "a", "b")
             assert ran in wanted, (name, growth, ran)
-            last = refusing.count(GROWTHS)
-        assert growth > 1_000, growth
 
 
-def until_cut(work):
+def is_cut(work):
     """Does the work, as far as its line goes. A request that brings neither an answer nor an end of the line fails."""
     try:
         work()
+        return False
     except ConnectionError:
-        pass
+        return True
 
 
 def connect(address):
@@ -118,6 +119,7 @@ class Course:
 
     def second(self):
         with connect(self.address) as jsp:
+            jsp.declare("Job", k="int")
             self.is_taken = jsp.take("a", self.job, timeout=10) is not None
 
     def check(self):
@@ -151,48 +153,55 @@ class Course:
 def served(refusing):
     """Each growth of a served course is refused: what is answered is so, and the others are served."""
     server, address = refusing.listen()
-    growth, last = 0, 1
-    while growth < last:
-        growth += 1
+    course = Course(address, 0)
+    refusing.refuse(GROWTHS, 0)
+    course.first()
+    course.second()
+    growths = refusing.count(GROWTHS)
+    assert growths > 300, growths
+    cut = 0
+    for growth in range(1, growths + 1):
         course = Course(address, growth)
         refusing.refuse(GROWTHS, growth)
-        until_cut(course.first)
-        until_cut(course.second)
-        last = refusing.count(GROWTHS)
+        cut += is_cut(course.first) + is_cut(course.second)
         refusing.refuse(GROWTHS, 0)
         course.check()
-    assert growth > 300, growth
+    assert cut > 0
     server.kill()
 
 
 def famine(refusing):
     """From some growth on all are refused for a while: who met it is answered late or cut, and then all is as was told."""
     server, address = refusing.listen()
+    cut = 0
     for growth in range(1, 200, 5):
         course = Course(address, growth)
         refusing.refuse(GROWTHS, growth, MANY)
         end = threading.Timer(0.1, refusing.refuse, (GROWTHS, 0))
         end.start()
-        until_cut(course.first)
-        until_cut(course.second)
+        cut += is_cut(course.first) + is_cut(course.second)
         end.join()
-        assert refusing.count(GROWTHS) > 0
         course.check()
+    assert cut > 0
     server.kill()
+
+
+def write_and_take(address):
+    with connect(address) as jsp:
+        jsp.declare("Job", k="int")
+        jsp.write("a", entry("Job", k=1))
+        assert jsp.take("a", entry("Job", k=1)) == {"k": 1}
 
 
 def threads(refusing):
     """Threads are refused: a line does without its second one, and the door waits for the first."""
     for first in range(1, 6):
+        refusing.refuse(THREADS, 0)
         server, address = refusing.listen("--until-input")
-        course = Course(address, 0)
-        course.first()
+        write_and_take(address)
         refusing.refuse(THREADS, first, 3)
-        for number in (1, 2):
-            course = Course(address, number)
-            course.first()
-            course.second()
-            course.check()
+        for _ in range(6):
+            write_and_take(address)
         assert refusing.count(THREADS) >= first + 3
         said = server.communicate(b"\n", SECONDS)[1]
         assert (said, server.returncode) == (b"jsp: compared 7 lines\n", 0), (said, server.returncode)
