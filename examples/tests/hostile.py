@@ -146,8 +146,8 @@ def sends_what_is_refused(address):
 
 
 def declares_what_a_frame_holds(address):
-    """Classes of 79,000 fields are refused at once, though no two of the fields are alike."""
-    fields = {f"{number:x}": "int" for number in range(79_000)}
+    """Classes of 60,000 fields are refused at once, though no two of the fields are alike."""
+    fields = {f"{number:x}": "int" for number in range(60_000)}
     with Client(*address) as jsp:
         jsp.socket.settimeout(SECONDS)
         for _ in range(30):
