@@ -94,6 +94,20 @@ def connect(address):
     return client
 
 
+def ask(jsp, op, **keys):
+    """The answer of a request that may have to wait. Where a line has no second thread it comes with its next answer, so
+    that the client asks on."""
+    number = jsp.send(op, **keys)
+    try:
+        while number not in jsp.answers:
+            jsp.call("spaces")
+            time.sleep(0.001)
+    except ConnectionError:
+        if number not in jsp.answers:
+            raise
+    return jsp.wait(number)
+
+
 class Course:
     """What two clients do in a round: an entry goes from one to the other, and another moves between the spaces."""
 
@@ -112,15 +126,16 @@ class Course:
             self.is_written = True
             jsp.notify("b", self.coin, lease=1_000)
             list(jsp.contents("a", self.job))
-            with jsp.transaction() as self.txn:
-                jsp.take("a", self.coin, txn=self.txn)
-                jsp.write("b", self.coin, txn=self.txn)
+            self.txn = jsp.call("txn", lease=60_000)["lease"]
+            jsp.take("a", self.coin, txn=self.txn)
+            jsp.write("b", self.coin, txn=self.txn)
+            ask(jsp, "commit", txn=self.txn)
             self.is_moved = True
 
     def second(self):
         with connect(self.address) as jsp:
             jsp.declare("Job", k="int")
-            self.is_taken = jsp.take("a", self.job, timeout=10) is not None
+            self.is_taken = ask(jsp, "take", space="a", template=self.job, timeout=10, txn=None) is not None
 
     def check(self):
         """A third client finds just what the two were told."""
@@ -173,6 +188,7 @@ def served(refusing):
 def famine(refusing):
     """From some growth on all are refused for a while: who met it is answered late or cut, and then all is as was told."""
     server, address = refusing.listen()
+    Course(address, 0).first()
     cut = 0
     for growth in range(1, 200, 5):
         course = Course(address, growth)

@@ -36,7 +36,8 @@ def a_wait_ends_by_the_clock_alone(address):
         jsp.declare("Job", k="int")
         began = time.monotonic()
         assert jsp.take("a", entry("Job", k=1), timeout=300) is None
-        assert time.monotonic() - began >= 0.3
+        # The server's clock tells whole milliseconds.
+        assert time.monotonic() - began > 0.298
 
 
 def each_line_is_woken(address):
