@@ -144,24 +144,19 @@ def standing(count):
     return script
 
 
-def beside(name, counts, before, after, many):
-    return name, counts, before, after, many
+def writing(script, first, space="a"):
+    """The script with many writes of values that nobody asked for."""
+    for value in range(MANY):
+        script.write(first + value, space)
+    return script
 
 
 def writes(count):
-    script = Script()
-    script.standing(count)
-    for value in range(MANY):
-        script.write(10_000_000 + value)
-    return script
+    return writing(standing(count), 10_000_000)
 
 
 def writes_elsewhere(count):
-    script = Script()
-    script.standing(count)
-    for value in range(MANY):
-        script.write(value, "b")
-    return script
+    return writing(standing(count), 0, "b")
 
 
 def waiting(count):
@@ -171,10 +166,7 @@ def waiting(count):
 
 
 def writes_beside_waiting(count):
-    script = waiting(count)
-    for value in range(MANY):
-        script.write(value)
-    return script
+    return writing(waiting(count), 0)
 
 
 def registered(count):
@@ -185,10 +177,7 @@ def registered(count):
 
 
 def writes_beside_registrations(count):
-    script = registered(count)
-    for value in range(MANY):
-        script.write(value)
-    return script
+    return writing(registered(count), 0)
 
 
 def alike(count):
@@ -259,10 +248,6 @@ def pages(count):
     return script
 
 
-def lasting(count):
-    return standing(count)
-
-
 def ending(count):
     script = Script()
     for value in range(count):
@@ -295,7 +280,7 @@ def rows():
     yield "ten takes and their abort", STANDING, standing, aborts, COMMITS
     yield "a transfer beside open transactions", (0, 100, 1_000), idle_transactions, over_two_spaces, TRANSFERS
     yield "a page of sixteen", (1_000, 10_000, 60_000), opened, pages, 48
-    yield "a lease's end at one reading", (15_000, 30_000, 60_000), lasting, ending, None
+    yield "a lease's end at one reading", (15_000, 30_000, 60_000), standing, ending, None
     yield "a reading of the clock", STANDING, standing, readings, MANY
 
 
