@@ -242,7 +242,7 @@ def opened(count):
 
 def pages(count):
     script = opened(count)
-    for _ in range(6):
+    for _ in range(60):
         for number in range(8):
             script.send(f'{{"op":"next","set":{script.number - number},"most":16}}')
     return script
@@ -279,7 +279,7 @@ def rows():
     yield "ten writes and their commit", STANDING, standing, transactions, COMMITS
     yield "ten takes and their abort", STANDING, standing, aborts, COMMITS
     yield "a transfer beside open transactions", (0, 100, 1_000), idle_transactions, over_two_spaces, TRANSFERS
-    yield "a page of sixteen", (1_000, 10_000, 60_000), opened, pages, 48
+    yield "a page of sixteen", (1_000, 10_000, 60_000), opened, pages, 480
     yield "a lease's end at one reading", (15_000, 30_000, 60_000), standing, ending, None
     yield "a reading of the clock", STANDING, standing, readings, MANY
 

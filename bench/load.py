@@ -54,10 +54,10 @@ def once(jsp, draw, mine):
             jsp.write("b", entry("Job", k=value, who="moved"), lease=draw.randrange(1, 100), txn=txn)
         return 5
     if kind < 0.98:
-        number = jsp.notify("b", entry("Job", k=mine), lease=60_000)
+        registration = jsp.notify("b", entry("Job", k=mine), lease=60_000)
         jsp.write("b", entry("Job", k=mine), lease=1)
-        assert jsp.event(60)["lease"] == number
-        jsp.call("cancel", lease=number)
+        assert jsp.event(60).lease == registration.number
+        jsp.cancel(registration)
         return 3
     number = jsp.call("contents", space="a", template=entry("Job", who="stands"), lease=60_000)["lease"]
     for _ in range(8):
