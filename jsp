@@ -1,7 +1,7 @@
 #!/usr/bin/env bash
 # Runs the program with these arguments, this input and its own status. Where there is no program, or
 # a source is newer, it is built first: every crate is proved on the way. With --unproved before the
-# arguments it is compiled and run at once, with checks in place of proofs.
+# arguments of a script it is compiled and run at once, with checks in place of proofs.
 set -euo pipefail
 here=$(cd "$(dirname "${BASH_SOURCE[0]}")" && pwd)
 folder=$here/crates/jsp_program
@@ -68,6 +68,11 @@ run_unproved() {
 
 if [ "${1:-}" = --unproved ]; then
     shift
+    # The compiler ends such a run after a minute and shows what it prints at its end, so it is no server.
+    if [ "${1:-}" != script ]; then
+        echo 'jsp: only a script can be run unproved' >&2
+        exit 2
+    fi
     run_unproved "$@"
 fi
 if is_old; then build; fi
