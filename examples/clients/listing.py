@@ -7,14 +7,14 @@ what is written after the listing began isn't either.
 """
 import sys
 
-from jsp import Client, entry
+from jsp import LONGEST, Client, entry
 
 
 def main(address):
     with Client(*address) as jsp, Client(*address) as other:
         jsp.declare("Job", k="int")
         for k in range(1, 41):
-            jsp.write("a", entry("Job", k=k))
+            jsp.write("a", entry("Job", k=k), lease=LONGEST)
 
         listed = []
         for job in jsp.contents("a", entry("Job"), most=10):
@@ -22,7 +22,7 @@ def main(address):
             if len(listed) == 10:
                 other.take("a", entry("Job", k=5))
                 other.take("a", entry("Job", k=25))
-                other.write("a", entry("Job", k=41))
+                other.write("a", entry("Job", k=41), lease=LONGEST)
         print("listed:", *listed)
 
 

@@ -3,27 +3,42 @@
     python3 pool.py HOST:PORT
 
 It opens five connections. A job and its result change hands under one transaction: a worker that broke off between the
-two would leave the job where it was, for another to take.
+two would leave the job where it was, for another to take. A worker that finds no job, or whose transaction ends before
+its work does, begins anew, so that the pool outlives any time without work.
 """
 import sys
 import threading
 
-from jsp import Client, entry
+from jsp import FOREVER, LONGEST, Client, TransactionLost, entry
 
 WORKERS = 4
 JOBS = 40
-WAIT = 60_000
+WAIT = 20_000  # how long a worker waits for a job, in milliseconds
+LEASE = 60_000  # how long its transaction may last, which is longer than the wait and the work together
 
 
-def work(address, name):
-    """Takes jobs and squares their numbers, until it takes one that has none."""
+def work(address, name, wait=WAIT, lease=LEASE):
+    """Does jobs until it takes one that has no number."""
     with Client(*address) as jsp:
-        while True:
-            with jsp.transaction() as txn:
-                job = jsp.take("a", entry("Job"), timeout=WAIT, txn=txn)
-                if job["k"] is None:
-                    return
-                jsp.write("b", entry("Result", k=job["k"], square=job["k"] ** 2, worker=name), txn=txn)
+        goes_on = True
+        while goes_on:
+            try:
+                goes_on = work_once(jsp, name, wait, lease)
+            except TransactionLost:
+                pass  # nothing of it was done, and if it had a job, that is there again
+
+
+def work_once(jsp, name, wait, lease):
+    """Takes a job and writes the square of its number, or neither. It is false where the job was the last one."""
+    with jsp.transaction(lease) as txn:
+        job = jsp.take("a", entry("Job"), timeout=wait, txn=txn)
+        if job is None:
+            return True
+        if job["k"] is None:
+            return False
+        result = entry("Result", k=job["k"], square=job["k"] ** 2, worker=name)
+        jsp.write("b", result, lease=LONGEST, txn=txn)
+        return True
 
 
 def main(address):
@@ -33,11 +48,12 @@ def main(address):
         workers = [threading.Thread(target=work, args=(address, f"worker {n}")) for n in range(WORKERS)]
         for worker in workers:
             worker.start()
+        # A job that nobody takes within the hour of its lease is gone: whoever wants it longer renews that.
         for k in range(1, JOBS + 1):
-            jsp.write("a", entry("Job", k=k))
-        results = [jsp.take("b", entry("Result", k=k), timeout=WAIT) for k in range(1, JOBS + 1)]
+            jsp.write("a", entry("Job", k=k), lease=LONGEST)
+        results = [jsp.take("b", entry("Result", k=k), timeout=FOREVER) for k in range(1, JOBS + 1)]
         for _ in workers:
-            jsp.write("a", entry("Job"))
+            jsp.write("a", entry("Job"), lease=LONGEST)
         for worker in workers:
             worker.join()
         print("squares:", *(result["square"] for result in results))

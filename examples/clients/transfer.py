@@ -7,7 +7,7 @@ entries that the commit brings: never of what was written in between.
 """
 import sys
 
-from jsp import Client, Refused, entry
+from jsp import LONGEST, Client, Refused, entry
 
 
 def transfer(jsp, amount):
@@ -15,8 +15,8 @@ def transfer(jsp, amount):
     with jsp.transaction() as txn:
         payer = jsp.take("a", entry("Account"), txn=txn)
         payee = jsp.take("b", entry("Account"), txn=txn)
-        jsp.write("a", entry("Account", amount=payer["amount"] - amount), txn=txn)
-        jsp.write("b", entry("Account", amount=payee["amount"] + amount), txn=txn)
+        jsp.write("a", entry("Account", amount=payer["amount"] - amount), lease=LONGEST, txn=txn)
+        jsp.write("b", entry("Account", amount=payee["amount"] + amount), lease=LONGEST, txn=txn)
         if amount > payer["amount"]:
             raise ValueError("not enough")
 
@@ -29,14 +29,14 @@ def shown(jsp):
 def main(address):
     with Client(*address) as jsp, Client(*address) as other:
         jsp.declare("Account", amount="int")
-        jsp.write("a", entry("Account", amount=70))
-        jsp.write("b", entry("Account", amount=30))
+        jsp.write("a", entry("Account", amount=70), lease=LONGEST)
+        jsp.write("b", entry("Account", amount=30), lease=LONGEST)
         print("before:", shown(other))
-        other.notify("b", entry("Account"), handback="b has changed")
+        other.notify("b", entry("Account"), lease=LONGEST, handback="b has changed")
 
         transfer(jsp, 50)
         print("after 50 more:", shown(other))
-        print("told:", other.event(seconds=60)["handback"])
+        print("told:", other.event(seconds=60).handback)
 
         try:
             transfer(jsp, 50)
@@ -45,7 +45,7 @@ def main(address):
         print("told of what was aborted:", other.event(seconds=0.2))
 
         try:
-            jsp.write("c", entry("Account", amount=1))
+            jsp.write("c", entry("Account", amount=1), lease=LONGEST)
         except Refused as refused:
             print("a space that isn't there:", refused)
 

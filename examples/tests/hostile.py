@@ -14,7 +14,7 @@ import time
 from pathlib import Path
 
 sys.path.insert(0, str(Path(__file__).parent.parent / "clients"))
-from jsp import Client, Refused, entry  # noqa: E402
+from jsp import LONGEST, Client, Refused, entry  # noqa: E402
 
 SECONDS = 60
 
@@ -28,7 +28,7 @@ def is_served(address):
     with Client(*address) as jsp:
         jsp.socket.settimeout(SECONDS)
         jsp.declare("Job", k="int")
-        jsp.write("a", entry("Job", k=1))
+        jsp.write("a", entry("Job", k=1), lease=LONGEST)
         assert jsp.take("a", entry("Job", k=1)) == {"k": 1}
 
 
@@ -166,7 +166,7 @@ def never_reads_its_events(address):
             client.socket.settimeout(SECONDS)
         other.declare("Job", k="int")
         for _ in range(16):
-            late.notify("a", entry("Job"))
+            late.notify("a", entry("Job"), lease=LONGEST)
         entries = [entry("Job", k=1)] * 64
         for _ in range(600):
             other.call("write_all", space="a", entries=entries, lease=1)

@@ -17,7 +17,7 @@ from pathlib import Path
 
 TESTS = Path(__file__).parent
 sys.path.insert(0, str(TESTS.parent / "clients"))
-from jsp import Client, Refused, entry  # noqa: E402
+from jsp import LONGEST, Client, Refused, entry  # noqa: E402
 
 SECONDS = 60
 GROWTHS, THREADS = 0, 24  # where the control file has the three numbers of each
@@ -121,14 +121,14 @@ class Course:
         with connect(self.address) as jsp:
             jsp.declare("Job", k="int")
             jsp.declare("Coin", k="int")
-            jsp.write("a", self.coin)
-            jsp.write("a", self.job)
+            jsp.write("a", self.coin, lease=LONGEST)
+            jsp.write("a", self.job, lease=LONGEST)
             self.is_written = True
             jsp.notify("b", self.coin, lease=1_000)
             list(jsp.contents("a", self.job))
             self.txn = jsp.call("txn", lease=60_000)["lease"]
             jsp.take("a", self.coin, txn=self.txn)
-            jsp.write("b", self.coin, txn=self.txn)
+            jsp.write("b", self.coin, lease=LONGEST, txn=self.txn)
             ask(jsp, "commit", txn=self.txn)
             self.is_moved = True
 
@@ -205,7 +205,7 @@ def famine(refusing):
 def write_and_take(address):
     with connect(address) as jsp:
         jsp.declare("Job", k="int")
-        jsp.write("a", entry("Job", k=1))
+        jsp.write("a", entry("Job", k=1), lease=LONGEST)
         assert jsp.take("a", entry("Job", k=1)) == {"k": 1}
 
 

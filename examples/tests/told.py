@@ -14,7 +14,7 @@ from contextlib import ExitStack
 from pathlib import Path
 
 sys.path.insert(0, str(Path(__file__).parent.parent / "clients"))
-from jsp import Client, entry  # noqa: E402
+from jsp import LONGEST, Client, entry  # noqa: E402
 
 SECONDS = 60
 
@@ -80,10 +80,10 @@ def one_who_reads_late(address):
     """Ten thousand events are told to a client that reads none until the last is written."""
     with connect(address) as late, connect(address) as other:
         other.declare("Job", k="int")
-        late.notify("a", entry("Job"))
+        late.notify("a", entry("Job"), lease=LONGEST)
         write_all(other, range(10_000))
         for number in range(1, 10_001):
-            assert late.event(SECONDS)["seq"] == number
+            assert late.event(SECONDS).seq == number
 
 
 CASES = {
