@@ -72,7 +72,7 @@ def scripts(refusing):
         refusing.refuse(GROWTHS, 0)
         assert refusing.run(text, "script", "a", "b") == (printed, b"", 0), name
         growths = refusing.count(GROWTHS)
-        assert growths > 500, (name, growths)
+        assert growths > 100, (name, growths)
         for growth in range(1, growths + 1):
             refusing.refuse(GROWTHS, growth)
             ran = refusing.run(text, "script", "a", "b")
@@ -92,20 +92,6 @@ def connect(address):
     client = Client(*address)
     client.socket.settimeout(SECONDS)
     return client
-
-
-def ask(jsp, op, **keys):
-    """The answer of a request that may have to wait. Where a line has no second thread it comes with its next answer, so
-    that the client asks on."""
-    number = jsp.send(op, **keys)
-    try:
-        while number not in jsp.answers:
-            jsp.call("spaces")
-            time.sleep(0.001)
-    except ConnectionError:
-        if number not in jsp.answers:
-            raise
-    return jsp.wait(number)
 
 
 class Course:
@@ -129,13 +115,13 @@ class Course:
             self.txn = jsp.call("txn", lease=60_000)["lease"]
             jsp.take("a", self.coin, txn=self.txn)
             jsp.write("b", self.coin, lease=LONGEST, txn=self.txn)
-            ask(jsp, "commit", txn=self.txn)
+            jsp.call("commit", txn=self.txn)
             self.is_moved = True
 
     def second(self):
         with connect(self.address) as jsp:
             jsp.declare("Job", k="int")
-            self.is_taken = ask(jsp, "take", space="a", template=self.job, timeout=10, txn=None) is not None
+            self.is_taken = jsp.take("a", self.job, timeout=10) is not None
 
     def check(self):
         """A third client finds just what the two were told."""
@@ -173,7 +159,7 @@ def served(refusing):
     course.first()
     course.second()
     growths = refusing.count(GROWTHS)
-    assert growths > 300, growths
+    assert growths > 100, growths
     cut = 0
     for growth in range(1, growths + 1):
         course = Course(address, growth)
@@ -210,7 +196,7 @@ def write_and_take(address):
 
 
 def threads(refusing):
-    """Threads are refused: a line does without its second one, and the door waits for the first."""
+    """Threads are refused for a while: the door waits for a line's first one, and the line for its second."""
     for first in range(1, 6):
         refusing.refuse(THREADS, 0)
         server, address = refusing.listen("--until-input")
@@ -223,7 +209,48 @@ def threads(refusing):
         assert (said, server.returncode) == (b"jsp: compared 7 lines\n", 0), (said, server.returncode)
 
 
-CASES = {case.__name__: case for case in (scripts, served, famine, threads)}
+def lonely(refusing):
+    """A line that never gets its second thread ends, and the next is served."""
+    server, address = refusing.listen("--until-input")
+    write_and_take(address)
+    refusing.refuse(THREADS, 2, MANY)
+    assert is_cut(lambda: write_and_take(address))
+    refusing.refuse(THREADS, 0)
+    write_and_take(address)
+    said = server.communicate(b"\n", SECONDS)[1]
+    assert (said, server.returncode) == (b"jsp: compared 3 lines\n", 0), (said, server.returncode)
+
+
+def shell(refusing):
+    """Each growth of a shell client is refused, alone and with all that follow it: it says that memory is wanting. Where its
+    thread is refused it says that."""
+    server, (host, port) = Refusing(refusing.environment["LD_PRELOAD"], refusing.program).listen()
+    words = ["client", f"{host}:{port}"]
+    text = b'declare Job k:int who:text\nwrite a Job who="ann lee"\n{"op":"spaces"}\nspaces\n'
+    refusing.refuse(GROWTHS, 0)
+    out, told, status = refusing.run(text, *words)
+    assert (len(out.splitlines()), told, status) == (4, b"", 0), (out, told, status)
+    growths = refusing.count(GROWTHS)
+    assert growths > 100, growths
+    wanting = 0
+    for many in (1, MANY):
+        for growth in range(1, growths + 1):
+            refusing.refuse(GROWTHS, growth, many)
+            out, told, status = refusing.run(text, *words)
+            if b"out of memory\n" in told:
+                assert status == 1, (growth, many, status)
+                wanting += 1
+            else:
+                # What the server said came in fewer pieces.
+                assert (len(out.splitlines()), told, status) == (4, b"", 0), (growth, many, out, told, status)
+    assert wanting > growths, (wanting, growths)
+    refusing.refuse(GROWTHS, 0)
+    refusing.refuse(THREADS, 1)
+    assert refusing.run(text, *words) == (b"", b"jsp: cannot read standard input in a thread\n", 1)
+    server.kill()
+
+
+CASES = {case.__name__: case for case in (scripts, served, famine, threads, lonely, shell)}
 
 if __name__ == "__main__":
     if sys.argv[1] == "cases":

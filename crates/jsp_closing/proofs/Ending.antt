@@ -24,7 +24,7 @@ is_line s st steps line asks writes = record {
   asked = asks.says.says;
   all_asked = λ sound. elim (asks.may_leave sound) [
     | inl none ↦ inl (asks.says.nothing none)
-    | inr itself ↦ inr (record { closed = itself.0; not_shut = itself.1 })
+    | inr more ↦ elim more [ inl itself ↦ inr (inl (record { closed = itself.0; not_shut = itself.1 })) | inr cut ↦ inr (inr cut) ]
   ];
   written = writes.begins;
   all_written = writes.all;

@@ -6,7 +6,7 @@ use Rattle.jsp_model.specs.Lookup.{is_open}
 use Rattle.jsp_drive.specs.Streams.{requests_of}
 use Rattle.jsp_closing.specs.declared.closed.LineReport.{LineReport}
 use Rattle.jsp_closing.specs.Asking.{SaysMore}
-use Rattle.jsp_closing.specs.Lines.{was_shut, MayEnd}
+use Rattle.jsp_closing.specs.Lines.{was_shut, MayEnd, WasCut}
 
 -- the flags tell of each session whether somebody shut it
 abbrev pub TellShut : List Bool → List Step → Type 0
@@ -17,14 +17,14 @@ pub record Marks (s : ℕ) (old new : List Bool) : Type 0 where
   pub count : length new ≡ length old
   pub each : (i : ℕ) (flag : Bool) → slice_get new i ≡ Some flag → (before : Bool) × (slice_get old i ≡ Some before) × (flag ≡ (before || s == i + 1))
 
--- The line's bytes say what its session asks in the steps. They say more only where a write failed, or where the session
--- is closed after them and nobody shut it.
+-- The line's bytes say what its session asks in the steps. They say more only where a write failed, where the session is
+-- closed after them and nobody shut it, or where the line was cut.
 pub record AsksIn (s : ℕ) (steps : List Step) (after : State) (line : LineReport) : Type 0 where
   pub session : line.session ≡ s
   pub more : Bool
   pub says : SaysMore s line.read.items (requests_of s steps) more
-  pub may_leave : line.write_failed ≡ false → (more ≡ false) ⊎ ((is_open after s ≡ false) × (was_shut s steps ≡ false))
-  pub ended : MayEnd line.ended line.write_failed
+  pub may_leave : line.write_failed ≡ false → (more ≡ false) ⊎ (((is_open after s ≡ false) × (was_shut s steps ≡ false)) ⊎ WasCut s steps line.ended)
+  pub ended : MayEnd line.ended line.write_failed (was_shut s steps)
 
 abbrev pub AllAsk : List Step → State → List LineReport → Type 0
 AllAsk steps after lines = (i : ℕ) (line : LineReport) → slice_get lines i ≡ Some line → AsksIn (i + 1) steps after line

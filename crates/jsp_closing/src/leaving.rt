@@ -4,6 +4,7 @@ ghost use Rattle.jsp_model.specs.declared.step.Step.{Step};
 ghost use Rattle.jsp_model.specs.Lookup.{is_open as has_open};
 ghost use Rattle.jsp_drive.specs.Streams.{requests_of};
 ghost use Rattle.jsp_drive.specs.Giving.{Gave};
+ghost use Rattle.jsp_closing.specs.declared.closed.Ended.TheVariants.{Cut};
 ghost use Rattle.jsp_closing.specs.Lines.{was_shut, MayEnd};
 ghost use Rattle.jsp_closing.specs.Asking.{HaveGiven, SaysMore};
 ghost use Rattle.jsp_closing.specs.Leaving.{AllAsk, AsksIn, Marks, TellShut};
@@ -47,30 +48,37 @@ fn check_line(
         → Gave session report.now.read.items (requests_of session steps) line.old
         → AsksIn session steps state.now report.now) }
 {
-    if report.session != session || !may_end(report.ended, report.write_failed) {
+    if report.session != session || !may_end(report.ended, report.write_failed, shut) {
         return Err(Fault::Differs);
     }
     let more = says_more(line, report.read.as_slice())?;
-    if !may_leave(state, session, shut, report.write_failed, more) {
+    if !may_leave(state, session, shut, report, more) {
         return Err(Fault::Differs);
     }
     Ok(())
 }
 
 // Whether a line may say more than what was asked, or doesn't.
-fn may_leave(state: &Core, session: u64, shut: bool, write_failed: bool, more: bool) -> bool
-    ensures { result ≡ true → write_failed ≡ false
-        → (more ≡ false) ⊎ ((has_open state.now session ≡ false) × (shut ≡ false)) }
+fn may_leave(state: &Core, session: u64, shut: bool, report: &LineReport, more: bool) -> bool
+    ensures { result ≡ true → report.now.write_failed ≡ false
+        → (more ≡ false) ⊎ (((has_open state.now session ≡ false) × (shut ≡ false)) ⊎ ((report.now.ended ≡ Cut) × (shut ≡ true))) }
 {
-    !more || write_failed || !(shut || is_open(state, session))
+    if !more || report.write_failed {
+        return true;
+    }
+    if shut {
+        matches!(report.ended, Ended::Cut)
+    } else {
+        !is_open(state, session)
+    }
 }
 
-fn may_end(ended: Ended, write_failed: bool) -> bool
-    ensures { result ≡ true → MayEnd ended write_failed }
+fn may_end(ended: Ended, write_failed: bool, shut: bool) -> bool
+    ensures { result ≡ true → MayEnd ended write_failed shut }
 {
     match ended {
         Ended::Stopped => false,
-        Ended::Cut => write_failed,
+        Ended::Cut => write_failed || shut,
         Ended::End | Ended::Failed | Ended::Bound | Ended::Closing => true,
     }
 }

@@ -1,10 +1,8 @@
 -- A write, once its rows are made and its space has joined.
-use Rattle.std.proofs.Common.{◌≡◌, ℕ, ◌+◌, ◌-◌, ◌≤◌, ◌==◌, false, not, nat_lt, List, Option, length, refl, ap, sym, ◌∙◌, arith, le-ltb}
-use Rattle.std.proofs.lemmas.List.Filters.{length-filter_both}
+use Rattle.std.proofs.Common.{◌≡◌, ℕ, ◌+◌, List, Option, length, refl, ap, sym, ◌∙◌}
 use Rattle.jsp_model.specs.declared.state.State.{State}
 use Rattle.jsp_model.specs.declared.state.Row.{Row}
 use Rattle.jsp_model.specs.Requests.{WriteRequest, caller_of, place_of}
-use Rattle.jsp_model.specs.Refusals.{rows_in}
 use Rattle.jsp_model.specs.Changes.{join, write}
 use Rattle.jsp_transactions.specs.Writing.{new_rows, with_rows}
 use Rattle.jsp_transactions.proofs.Writing.{rows_are_written, new_rows_once_joined, length-rows_from}
@@ -22,10 +20,3 @@ written st w caller space rows joined new by at made is so =
     let same : rows ≡ new_rows (once_joined st w) w = made ∙ sym (new_rows_once_joined st w (caller_of w.txn) (place_of st w.space)) in
     so ∙ (ap (λ j. with_new_rows j caller rows) here ∙ (ap (λ c. with_new_rows (once_joined st w) c rows) by ∙ (ap (with_new_rows (once_joined st w) (caller_of w.txn)) same
     ∙ (rows_added (once_joined st w) w ∙ sym (rows_are_written (once_joined st w) w)))))
-
-few_in : (st : State) (p : ℕ) → rows_in st p ≤ length st.rows
-few_in st p = omega (arith, length-filter_both (λ (r : Row). r.space == p) (λ r. not (r.space == p)) (λ r. refl) st.rows)
-
--- where its rows are few enough, a space has room
-pub room_left : (st : State) (p most n : ℕ) → n ≤ most → rows_in st p ≤ most - n → nat_lt most (rows_in st p + n) ≡ false
-room_left st p most n fits room = le-ltb most (rows_in st p + n) (omega (arith, fits, room))

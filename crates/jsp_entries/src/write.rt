@@ -77,17 +77,12 @@ fn has_bad_lease(asked: &WriteAsked) -> bool
     granted(asked.lease).is_none()
 }
 
-/// Whether the space has no room for so many rows more. They are counted only where they may be too
-/// many.
+/// Whether the space has no room for so many rows more.
 fn is_full(state: &Core, space: u64, count: usize) -> bool
     requires { count ≤ 64 }
     ensures { result ≡ nat_lt MOST_ROWS (count_in state.now space + count) }
 {
-    let room = MOST_ROWS - count;
-    if state.rows.at_most_in(space) <= room {
-        return false;
-    }
-    room < rows_in(state, space)
+    MOST_ROWS - count < rows_in(state, space)
 }
 
 /// Writes the entries, all or none: each is a row of its own, also an equal one (JavaSpaces). The

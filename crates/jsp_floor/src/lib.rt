@@ -9,7 +9,6 @@ mod end;
 mod lines;
 mod run;
 mod served;
-mod start;
 #[cfg(test)]
 mod tests;
 

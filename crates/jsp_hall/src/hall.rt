@@ -43,6 +43,10 @@ impl House for Hall {
         self.house.act(input, log)
     }
 
+    fn act_ready(&mut self, input: Input, log: &mut Vec<Step>) -> Result<(), Stopped> {
+        self.house.act_ready(input, log)
+    }
+
     fn settle(&mut self, log: &mut Vec<Step>) -> Result<Settled, Stopped> {
         self.house.settle(log)
     }

@@ -5,3 +5,5 @@ pub mod Walks
 pub mod Single
 pub mod Revisions
 pub mod Holders
+pub mod Spaces
+pub mod Beside

@@ -1,14 +1,16 @@
 -- Rows revised one by one, as they are named.
-use Rattle.std.proofs.Common.{◌≡◌, ◌≢◌, ℕ, zero, suc, ◌+◌, ◌<◌, Bool, true, false, not, cond, ◌||◌, eqb, List, [], ◌∷◌, ◌++◌, length, take, get_or, map, Option, Some, None, option_and_then, inl, inr, refl, ap, sym, ◌∙◌, arith}
-use Rattle.std.specs.Prelude.{slice_index, filter}
+use Rattle.std.proofs.Common.{◌≡◌, ◌≢◌, ℕ, ◌+◌, ◌<◌, ◌≤◌, Bool, true, false, not, cond, ◌&&◌, ◌||◌, eqb, nat_le, nat_lt, List, [], ◌∷◌, ◌++◌, length, take, get_or, map, Option, Some, None, option_and_then, inl, inr, ◌⊎◌, refl, ap, sym, ◌∙◌, arith}
+use Rattle.std.specs.Prelude.{filter, find}
 use Rattle.std.specs.List.{AllByRecursion, filter_map, cons_option}
-use Rattle.std.proofs.lemmas.Bool.{cases_eq, eq-eqb, ne_eqb}
+use Rattle.std.proofs.lemmas.Bool.{cases_eq, cases_lt, cases_order, eq-eqb, ne_eqb}
+use Rattle.std.proofs.lemmas.Bool.Decides.{nat_tests}
 use Rattle.std.proofs.lemmas.List.{take_more}
 use Rattle.jsp_model.specs.declared.state.Row.{Row}
 use Rattle.jsp_model.specs.Lookup.{contains as has}
 use Rattle.jsp_sight.specs.Rows.{taken_row}
 use Rattle.jsp_table.specs.Numbers.{contains, AreIncreasing}
 use Rattle.jsp_table.specs.Finding.{AreNumbered as AreRising}
+use Rattle.jsp_table.proofs.Next.{none_between, none_above, next_is_above, next_is_there}
 use Rattle.jsp_index.specs.Finding.{number, row_numbered}
 use Rattle.jsp_index.specs.Changing.{revised_by, HasSameKeys}
 use Rattle.jsp_index.proofs.Covering.{eqb_eq}
@@ -19,36 +21,23 @@ module _ {T : Type 0} (num : T → ℕ) (f : T → Option T) where
   abbrev pub revised_one : ℕ → T → Option T
   revised_one n x = cond (eqb (num x) n) (f x) (Some x)
 
-  -- those of some numbers are
-  abbrev pub revised_of : List ℕ → T → Option T
-  revised_of ns x = cond (contains ns (num x)) (f x) (Some x)
+  -- those that are named up to a number are
+  abbrev pub revised_to : List ℕ → ℕ → T → Option T
+  revised_to ns last x = cond (contains ns (num x) && nat_le (num x) last) (f x) (Some x)
+
+up_to : (a b : ℕ) → a ≤ b → nat_le a b ≡ true
+up_to a b h = grind (arith, nat_tests)
+
+past : (a b : ℕ) → b < a → nat_le a b ≡ false
+past a b h = grind (arith, nat_tests)
 
 module _ {T : Type 0} (num : T → ℕ) (f : T → Option T) (keeps : (x y : T) → f x ≡ Some y → num y ≡ num x) where
-  none_yet : (ns : List ℕ) (xs : List T) → filter_map (revised_of num f (take 0 ns)) xs ≡ xs
-  none_yet ns [] = refl
-  none_yet ns (x ∷ xs) = ap (λ w. x ∷ w) (none_yet ns xs)
-
-  pub before_first : (ns : List ℕ) (xs : List T) → xs ≡ filter_map (revised_of num f (take 0 ns)) xs
-  before_first ns xs = sym (none_yet ns xs)
-
-  contains_more : (xs : List ℕ) (n m : ℕ) → contains (xs ++ n ∷ []) m ≡ (contains xs m || eqb n m)
-  contains_more [] n m = last (eqb n m) where
-    last : (b : Bool) → (b || false) ≡ b
-    last true = refl
-    last false = refl
-  contains_more (x ∷ xs) n m = ap (λ b. eqb x m || b) (contains_more xs n m) ∙ assoc (eqb x m) (contains xs m) (eqb n m) where
-    assoc : (a b c : Bool) → (a || (b || c)) ≡ ((a || b) || c)
-    assoc true b c = refl
-    assoc false b c = refl
-
-  -- a number isn't among those before it
-  not_before : (ns : List ℕ) (k : ℕ) → AreIncreasing ns → k < length ns → contains (take k ns) (slice_index ns k) ≡ false
-  not_before [] k up lt = absurd (omega arith)
-  not_before (n ∷ ns) zero up lt = refl
-  not_before (n ∷ ns) (suc k) up lt =
-      rw (ne_eqb n (slice_index ns k) (apart (up zero (suc k) (omega arith) lt))) (not_before ns k (λ i j l g. up (suc i) (suc j) (omega arith) (omega arith)) (omega arith)) where
-        apart : {a b : ℕ} → a < b → a ≢ b
-        apart h e = omega arith
+  pub before_first : (ns : List ℕ) (xs : List T) → AllByRecursion (λ x. 0 < num x) xs → xs ≡ filter_map (revised_to num f ns 0) xs
+  before_first ns [] h = refl
+  before_first ns (x ∷ xs) h = rw (past (num x) 0 h.0, neither (contains ns (num x))) (ap (λ w. x ∷ w) (before_first ns xs h.1)) where
+    neither : (b : Bool) → (b && false) ≡ false
+    neither true = refl
+    neither false = refl
 
   compose : (g h r : T → Option T) (xs : List T) → ((x : T) → option_and_then h (g x) ≡ r x) → filter_map h (filter_map g xs) ≡ filter_map r xs
   compose g h r [] e = refl
@@ -57,34 +46,57 @@ module _ {T : Type 0} (num : T → ℕ) (f : T → Option T) (keeps : (x y : T) 
     at None q rest = rw (← q) rest
     at (Some y) q rest = rw (← q) (ap (cons_option (h y)) rest)
 
-  eqb_comm : (a b : ℕ) → eqb a b ≡ eqb b a
-  eqb_comm a b = elim (cases_eq a b) [
-    | inl e ↦ eq-eqb a b e ∙ sym (eq-eqb b a (sym e))
-    | inr ne ↦ ne_eqb a b ne ∙ sym (ne_eqb b a (λ e. ne (sym e)))
-  ]
+  pub one_more : (ns : List ℕ) (last n : ℕ) (xs : List T) → AreIncreasing ns → find (nat_lt last) ns ≡ Some n → filter_map (revised_one num f n) (filter_map (revised_to num f ns last) xs) ≡ filter_map (revised_to num f ns n) xs
+  one_more ns last n xs up is = compose (revised_to num f ns last) (revised_one num f n) (revised_to num f ns n) xs (λ x. at x (contains ns (num x)) refl) where
+    other : (y : T) → num y ≢ n → revised_one num f n y ≡ Some y
+    other y ne = rw (ne_eqb (num y) n ne) refl
 
-  pub one_more : (ns : List ℕ) (k : ℕ) (xs : List T) → AreIncreasing ns → k < length ns → filter_map (revised_one num f (slice_index ns k)) (filter_map (revised_of num f (take k ns)) xs) ≡ filter_map (revised_of num f (take (k + 1) ns)) xs
-  one_more ns k xs up lt = compose (revised_of num f (take k ns)) (revised_one num f (slice_index ns k)) (revised_of num f (take (k + 1) ns)) xs (λ x. at x (contains (take k ns) (num x)) refl) where
-    more : (x : T) → contains (take (k + 1) ns) (num x) ≡ (contains (take k ns) (num x) || eqb (slice_index ns k) (num x))
-    more x = ap (λ w. contains w (num x)) (take_more ns k 0 lt) ∙ contains_more (take k ns) (slice_index ns k) (num x)
+    known : (x : T) (o : Option T) → f x ≡ o → num x ≢ n → option_and_then (revised_one num f n) o ≡ o
+    known x None e ne = refl
+    known x (Some y) e ne = other y (λ q. ne (sym (keeps x y e) ∙ q))
 
-    known : (x : T) (o : Option T) → f x ≡ o → contains (take k ns) (num x) ≡ true → option_and_then (revised_one num f (slice_index ns k)) o ≡ o
-    known x None e h = refl
-    known x (Some y) e h = rw (ne_eqb (num y) (slice_index ns k) (λ q. absurd (cc (not_before ns k up lt, h, ap (contains (take k ns)) (sym (keeps x y e) ∙ q))))) refl
+    over : {a : ℕ} → a ≡ n → last < n → last < a
+    over e h = omega arith
 
-    at : (x : T) (b : Bool) → contains (take k ns) (num x) ≡ b → option_and_then (revised_one num f (slice_index ns k)) (revised_of num f (take k ns) x) ≡ revised_of num f (take (k + 1) ns) x
-    at x true e = rw (more x, e) (known x (f x) refl e)
-    at x false e = rw (more x, e, eqb_comm (num x) (slice_index ns k)) refl
+    further : {a : ℕ} → n < a → last < n → last < a
+    further h k = omega arith
+
+    below : {a : ℕ} → a < n → a ≢ n
+    below h e = omega arith
+
+    above : {a : ℕ} → n < a → a ≢ n
+    above h e = omega arith
+
+    same : {a : ℕ} → a ≡ n → a ≤ n
+    same e = omega arith
+
+    less : {a : ℕ} → a < n → a ≤ n
+    less h = omega arith
+
+    there : (x : T) → contains ns (num x) ≡ true → (num x ≡ n) ⊎ ((num x < n) ⊎ (n < num x)) → option_and_then (revised_one num f n) (cond (nat_le (num x) last) (f x) (Some x)) ≡ cond (nat_le (num x) n) (f x) (Some x)
+    there x e (inl q) = rw (past (num x) last (over q (next_is_above ns last n is)), up_to (num x) n (same q), eq-eqb (num x) n q) refl
+    there x e (inr (inl h)) = elim (cases_lt last (num x)) [
+      | inl between ↦ absurd (cc (e, none_between ns last n (num x) up is between h))
+      | inr low ↦ rw (up_to (num x) last low, up_to (num x) n (less h)) (known x (f x) refl (below h))
+    ]
+    there x e (inr (inr h)) = rw (past (num x) last (further h (next_is_above ns last n is)), past (num x) n h) (other x (above h))
+
+    at : (x : T) (b : Bool) → contains ns (num x) ≡ b → option_and_then (revised_one num f n) (revised_to num f ns last x) ≡ revised_to num f ns n x
+    at x false e = rw e (other x (λ q. absurd (cc (e, ap (contains ns) q ∙ next_is_there ns last n is))))
+    at x true e = rw e (there x e (cases_order (num x) n))
 
   -- those that aren't named stay as they are
-  pub all_done : (ns : List ℕ) (xs : List T) → AllByRecursion (λ x. contains ns (num x) ≡ false → f x ≡ Some x) xs → filter_map (revised_of num f ns) xs ≡ filter_map f xs
-  all_done ns [] h = refl
-  all_done ns (x ∷ xs) h = cong (at (contains ns (num x)) refl) (all_done ns xs h.1) where
+  pub all_done : (ns : List ℕ) (last : ℕ) (xs : List T) → find (nat_lt last) ns ≡ None → AllByRecursion (λ x. contains ns (num x) ≡ false → f x ≡ Some x) xs → filter_map (revised_to num f ns last) xs ≡ filter_map f xs
+  all_done ns last [] is h = refl
+  all_done ns last (x ∷ xs) is h = cong (at (contains ns (num x)) refl) (all_done ns last xs is h.1) where
     cong : {o q : Option T} {us vs : List T} → o ≡ q → us ≡ vs → cons_option o us ≡ cons_option q vs
     cong e g = cc
 
-    at : (b : Bool) → contains ns (num x) ≡ b → revised_of num f ns x ≡ f x
-    at true e = rw e refl
+    at : (b : Bool) → contains ns (num x) ≡ b → revised_to num f ns last x ≡ f x
+    at true e = elim (cases_lt last (num x)) [
+      | inl over ↦ absurd (cc (e, none_above ns last (num x) is over))
+      | inr low ↦ rw (e, up_to (num x) last low) refl
+    ]
     at false e = rw e (sym (h.0 e))
 
 -- ---- at one number

@@ -4,3 +4,5 @@ pub mod Numbered
 pub mod Finding
 pub mod Holding
 pub mod Changing
+pub mod Counted
+pub mod Beside

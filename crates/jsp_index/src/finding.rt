@@ -1,5 +1,5 @@
 //! What is found among rows by hints. Only what answers in lists takes memory.
-ghost use Rattle.std.specs.Prelude.{◌≡◌, ◌==◌, ◌&&◌, ◌||◌, ◌≤◌, ℕ, true, not, map, filter, find, option_copied, take, length, slice_get, Bool, None, IfOk};
+ghost use Rattle.std.specs.Prelude.{◌≡◌, ◌==◌, ◌&&◌, ◌||◌, ℕ, true, not, map, filter, find, option_copied, take, length, slice_get, Bool, None, IfOk};
 ghost use Rattle.std.specs.List.{list_any, list_all, last_or};
 ghost use Rattle.std.specs.Fn.{FnReturnsAt};
 ghost use Rattle.jsp_lease.specs.Due.{first_item, over_by};
@@ -9,7 +9,7 @@ ghost use Rattle.jsp_model.specs.Changes.{published};
 ghost use Rattle.jsp_table.specs.Numbers.{contains};
 ghost use Rattle.jsp_sight.specs.Rows.{offered_among, held, shows, row_end, entries_among};
 
-use crate::asking::{ChangedBy, InConflict, InSpace, Offered, OneOf, PublishedBy, Shown};
+use crate::asking::{ChangedBy, InConflict, Offered, OneOf, PublishedBy, Shown};
 use crate::listing::{entries_named, rows_named};
 use crate::walking::{Sought, entries_found, numbers_found, walk};
 use crate::{HintedRows, NoMemory};
@@ -24,14 +24,7 @@ impl HintedRows {
     pub fn count_in(&self, space: u64) -> usize
         ensures { result ≡ length (filter (λ r. r.space == space) self.now) }
     {
-        self.rows.keyed().count(&InSpace { space })
-    }
-
-    /// No fewer than the rows that a space has, found without looking at any.
-    pub fn at_most_in(&self, space: u64) -> usize
-        ensures { length (filter (λ r. r.space == space) self.now) ≤ result }
-    {
-        self.rows.keyed().count_under(&InSpace { space })
+        self.rows.count_in(space)
     }
 
     /// The row of this number.

@@ -1,5 +1,5 @@
-//! Rows, found by number, by what their entries hold, and by end.
-ghost use Rattle.std.specs.Prelude.{◌≡◌, ◌==◌, ◌++◌, [], not, if◌then◌else◌, filter, map, option_copied, OnOk, OnErr};
+//! Rows, found by number, by what their entries hold, and by end, and counted by space.
+ghost use Rattle.std.specs.Prelude.{◌≡◌, ◌==◌, ◌++◌, [], not, if◌then◌else◌, filter, map, length, option_copied, OnOk, OnErr};
 ghost use Rattle.jsp_model.specs.declared.state.Row.{Row as OfRow};
 ghost use Rattle.jsp_sight.specs.Rows.{row_ending};
 ghost use Rattle.jsp_table.specs.Places.{living};
@@ -10,12 +10,14 @@ ghost use Rattle.jsp_index.specs.Changing.{HasSameKeys};
 use crate::NoMemory;
 use crate::asking::InSpace;
 use crate::by_number::Rows;
+use crate::counting::{count_all, make_room_for, uncount_all};
 use crate::seeing::see_all;
 use jsp_keyed::Keyed;
 use jsp_model::Row;
-use jsp_table::{Change, TryChange};
+use jsp_table::{Change, Counts, TryChange, count_of, count_one_less, drop_count};
 use jsp_types::{Items, Text};
 use std::alloc::Global;
+use std::collections::HashMap;
 use std::marker::Model;
 
 /// Rows, found by number, by what their entries hold, and by end. Contracts see the list of them, in
@@ -25,18 +27,20 @@ pub(crate) struct KeyedRows {
     pub(crate) rows: Rows,
     /// The classes that rows had so far.
     pub(crate) seen: Items<Text>,
+    /// How many rows each space has. One whose rows went keeps a count of 0 until it is cleared.
+    counts: Counts,
 }
 
 impl Model for KeyedRows {
     ghost use Rattle.std.specs.Prelude.{List};
     ghost use Rattle.jsp_model.specs.declared.state.Row.{Row};
-    ghost use Rattle.jsp_index.specs.Seen.{AreSeen};
+    ghost use Rattle.jsp_index.specs.Beside.{IsBeside};
 
     ghost Value = { List Row };
 
     ghost view = { λ k. k.rows };
 
-    ghost invariant = { λ k. AreSeen k.seen k.rows };
+    ghost invariant = { λ k. IsBeside k.seen k.counts k.rows };
 }
 
 impl KeyedRows {
@@ -47,6 +51,7 @@ impl KeyedRows {
         KeyedRows {
             rows: Keyed::new(alloc, seed),
             seen: Items::new(alloc),
+            counts: HashMap::new(alloc),
         }
     }
 
@@ -65,8 +70,22 @@ impl KeyedRows {
         ensures rows_stay { OnErr result (rows.new.items ≡ rows.old.items) }
     {
         see_all(&mut self.seen, rows)?;
-        self.rows.append(rows)?;
+        make_room_for(&mut self.counts, rows)?;
+        // Which says how many rows there are at most, so that more can be counted.
+        let _ = self.rows.places();
+        count_all(&mut self.counts, rows);
+        if let Err(e) = self.rows.append(rows) {
+            uncount_all(&mut self.counts, rows);
+            return Err(e);
+        }
         Ok(())
+    }
+
+    /// How many rows a space has.
+    pub(crate) fn count_in(&self, space: u64) -> usize
+        ensures { result ≡ length (filter (λ r. r.space == space) self.now) }
+    {
+        count_of(&self.counts, space)
     }
 
     /// The row of this number.
@@ -83,6 +102,12 @@ impl KeyedRows {
     pub(crate) fn remove(&mut self, number: u64)
         ensures { self.new ≡ filter (λ r. not (r.number == number)) self.old }
     {
+        // Which says that no other row has the number.
+        let _ = self.rows.places();
+        let Some(row) = self.rows.get(number) else {
+            return;
+        };
+        count_one_less(&mut self.counts, row.space);
         self.rows.remove(number);
     }
 
@@ -91,6 +116,7 @@ impl KeyedRows {
         ensures { self.new ≡ filter (λ r. not (r.space == space)) self.old }
     {
         self.rows.remove_all(&InSpace { space });
+        drop_count(&mut self.counts, space);
     }
 
     /// Changes the row of this number, which keeps its number, space, entry and end. Takes no memory.

@@ -14,6 +14,7 @@ mod asking;
 mod by_number;
 mod changing;
 mod choosing;
+mod counting;
 mod finding;
 mod hinted;
 mod holding;

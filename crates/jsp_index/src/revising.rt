@@ -38,8 +38,12 @@ pub(crate) fn revise_all<R: Revision + Change<Row>>(
     requires named { AllByRecursion (λ (r : OfRow). contains numbers.now r.number ≡ false → revised_by (R.is_gone revision.now) (R.changed revision.now) r ≡ Some r) rows.old }
     ensures { rows.new ≡ filter_map (revised_by (R.is_gone revision.now) (R.changed revision.now)) rows.old }
 {
-    'places: for place in 0..numbers.len() {
-        revise(rows, numbers.at(place), revision);
+    // Which says that no number is 0.
+    let _ = rows.places();
+    let mut last = 0;
+    'numbers: while let Some(number) = numbers.next_above(last) {
+        revise(rows, number, revision);
+        last = number;
     }
 }
 

@@ -17,7 +17,7 @@ use Rattle.std.proofs.Common.{true≢false}
 use Rattle.jsp_model.specs.Lookup.{contains}
 use Rattle.jsp_model.specs.Quiet.{is_quiet, are_quiet}
 use Rattle.jsp_model.specs.Settling.{places}
-use Rattle.jsp_model.specs.House.{Finishes, Makes, touched}
+use Rattle.jsp_model.specs.House.{touched}
 use Rattle.jsp_laws.proofs.Lists.{Has, each_has, each_by_all, found_has}
 use Rattle.jsp_quiet.specs.Steady.{IsSteady}
 use Rattle.jsp_quiet.proofs.Covering.{all_parts, covered}
@@ -98,9 +98,8 @@ quieted h l owed q steady none owes quiet all found = at (first_unquiet h.state)
     at : (o : Option ℕ) → first_unquiet h.state ≡ o → Covers owed (option_to_list o) → Answers h.state l.state settled.Quieted
     at (Some p) e c = (none, p, e, (and_parts (is_quiet l.state p) true (covered (is_quiet l.state) owed (p ∷ []) c quiet)).0)
     at None e c =
-        absurd (clashes l.state q found (still_quiet h.state l.state h.debt l.debt [] all.steps steady
-        (record { steps = all.steps; makes = record { log = refl; run = all.grows.run; view = sym all.grows.state }; own = all.own_steps; leaves = all.leaves })
-        (none_unquiet h.state e)))
+        let here : are_quiet l.state (touched h.state all.steps) ≡ true = (all_parts (is_quiet l.state) (touched h.state all.steps) h.debt all.leaves.1).0 in
+        absurd (clashes l.state q found (still_quiet h.state l.state all.steps steady all.grows.run (sym all.grows.state) all.own_steps here (none_unquiet h.state e)))
 
 quiet_at : (h l : History) (owed : List ℕ) (s : Settled) → IsSteady h.state → settle_step h.state ≡ None → Covers owed (option_to_list (first_unquiet h.state)) → are_quiet l.state owed ≡ true → Performs h l [] (Ok tt)
     → s ≡ (if is_none (first_unquiet l.state) then settled.Idle else settled.Quieted) → Answers h.state l.state s

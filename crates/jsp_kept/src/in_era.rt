@@ -64,7 +64,7 @@ impl<H: House, A: Ledger, O: Ledger> Kept<H, A, O> {
         ensures asks { KeepsAsks self.old self.new }
         ensures outs { KeepsOuts self.old self.new }
     {
-        self.house.act(Input::Clock { time }, &mut self.log)
+        self.house.act_ready(Input::Clock { time }, &mut self.log)
     }
 
     /// An input of the seat's session, for which the house was made ready. The seat's count is its
@@ -82,7 +82,7 @@ impl<H: House, A: Ledger, O: Ledger> Kept<H, A, O> {
     {
         let session = seat.session;
         let open = self.house.is_open(session);
-        let result = self.house.act(input, &mut self.log);
+        let result = self.house.act_ready(input, &mut self.log);
         let by = own_steps(open, &result);
         raise(&mut self.asked, session as usize - 1, by);
         self.asks_sum += by;
@@ -106,7 +106,7 @@ impl<H: House, A: Ledger, O: Ledger> Kept<H, A, O> {
         if let Err(NoMemory) = reserve_both(&mut self.asked, &mut self.taken) {
             return Err(unmade(Why::NoMemory));
         }
-        if let Err(stopped) = self.house.act(Input::Open { session }, &mut self.log) {
+        if let Err(stopped) = self.house.act_ready(Input::Open { session }, &mut self.log) {
             return Err(stopped);
         }
         self.asked.push_reserved(0);

@@ -6,6 +6,7 @@ ghost use Rattle.jsp_model.specs.House.{Makes, shuts, next_waiting, awaits_decis
 ghost use Rattle.jsp_kept.specs.History.{IsKept, new_history};
 ghost use Rattle.jsp_kept.specs.Calls.{KeepsEra, KeepsAsks, KeepsOuts, Seals};
 
+use crate::aside::{free_some, set_aside};
 use jsp_model::{Config, House, Step};
 use jsp_rows::Backlog;
 use jsp_types::{NoMemory, Text};
@@ -19,6 +20,8 @@ pub struct Kept<H: House, A: Ledger, O: Ledger> {
     pub(crate) house: H,
     pub(crate) config: Config,
     pub(crate) log: Vec<Step>,
+    /// Steps of the era before, which are freed a few at a time.
+    pub(crate) gone: Vec<Step>,
     pub(crate) asked: Vec<u64>,
     pub(crate) taken: Vec<u64>,
     pub(crate) asks: Book<A>,
@@ -113,6 +116,7 @@ impl<H: House, A: Ledger, O: Ledger> Kept<H, A, O> {
             house,
             config,
             log: Vec::new(alloc),
+            gone: Vec::new(alloc),
             asked: Vec::new(alloc),
             taken: Vec::new(alloc),
             asks,
@@ -125,6 +129,14 @@ impl<H: House, A: Ledger, O: Ledger> Kept<H, A, O> {
             limit: era,
             is_sealed: false,
         })
+    }
+
+    /// Frees a few of the steps of an era that is over, where some are left. Nothing else changes. To be called with
+    /// each call that makes steps.
+    pub fn free_some(&mut self)
+        ensures { self.new ≡ self.old }
+    {
+        free_some(&mut self.gone);
     }
 
     /// What is true of every history.
@@ -203,12 +215,13 @@ impl<H: House, A: Ledger, O: Ledger> Kept<H, A, O> {
         }
     }
 
-    /// Begins a new era where the history stands, with no steps. The counts go on. Takes no memory: the steps so far are
-    /// gone, and no copy of the state stands for them. That they were one run to it is what the type keeps.
+    /// Begins a new era where the history stands, with no steps. The counts go on. The steps so far are gone, and no copy
+    /// of the state stands for them: that they were one run to it is what the type keeps. Where there is memory they are
+    /// freed by and by, so that nobody waits for all of them.
     pub fn seal(&mut self)
         ensures { Seals self.old self.new }
     {
-        self.log.clear();
+        set_aside(&mut self.log, &mut self.gone);
         self.is_sealed = true;
         self.limit = self.era;
         self.house.bound(self.limit);

@@ -9,6 +9,7 @@
 //! before all else. What each call changes, and what stays, is said in `specs/Calls.antt`.
 #![tactic(auto)]
 
+mod aside;
 mod calls;
 mod counts;
 mod in_era;

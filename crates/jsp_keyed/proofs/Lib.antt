@@ -7,7 +7,7 @@ pub mod Altering
 pub mod Placed
 pub mod Sweeping
 pub mod Sought
+pub mod Beyond
 pub mod Gathering
 pub mod Ending
 pub mod Joining
-pub mod Bounding

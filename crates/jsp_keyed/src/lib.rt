@@ -35,4 +35,4 @@ pub use keys::{
     key_of_class, key_of_field, key_of_number, key_of_session, key_of_space, key_of_transaction,
 };
 pub use slots::sooner;
-pub use templates::{entry_key, key_of_template};
+pub use templates::{count_entry_keys, entry_key, key_of_template};

@@ -1,5 +1,5 @@
 //! What is named under a key. Nothing here takes memory.
-ghost use Rattle.std.specs.Prelude.{◌≡◌, ◌<◌, ◌≤◌, Bool, filter, find, length, option_copied};
+ghost use Rattle.std.specs.Prelude.{◌≡◌, ◌<◌, Bool, find, option_copied};
 ghost use Rattle.std.specs.List.{AllByRecursion};
 ghost use Rattle.jsp_table.specs.Finding.{is_hit, AreNamed, AreNumbered};
 ghost use Rattle.jsp_keyed.specs.Finding.{is_next, HaveKey, IsLeast};
@@ -17,15 +17,6 @@ impl<T, K: Numbering<T> + Keying<T>> Keyed<T, K> {
             None => &self.none,
             Some(numbers) => numbers,
         }
-    }
-
-    /// No fewer than the things that have the key, of any kind of which all do. None is looked at.
-    pub fn count_under<Q: Key>(&self, key: &Q) -> usize
-        ensures { (kind : T → Bool) → HaveKey K.keys_of (Q.key_by key.now) kind → length (filter kind self.now) ≤ result }
-    {
-        // Which says that the numbers rise.
-        let _ = self.places();
-        self.numbers_under(key).len()
     }
 
     /// The first thing above a number that is named and passes the test. Of a kind of which all are named

@@ -34,8 +34,8 @@ impl<H: Backlog, A: Ledger, O: Ledger, G: Gate, C, T: Wait + Clock> Shared<'_, H
         self.tell(session, sent);
     }
 
-    // Takes what waits for the line, until nothing does, and writes it.
-    fn drain<W: Write, S: Start>(
+    /// Takes what waits for the line, until nothing does, and writes it.
+    pub(crate) fn drain<W: Write, S: Start>(
         &self,
         half: &Mutex<OutHalf<O, W, S>>,
         session: u64,

@@ -12,12 +12,21 @@ use jsp_types::NoMemory;
 use std::alloc::Global;
 use std::sync::atomic::{AtomicBool, AtomicU64, Ordering};
 use std::sync::ledger::Ledger;
-use std::sync::{Condvar, Mutex, Wait};
-use std::time;
+use std::sync::{Condvar, Mutex, MutexGuard, Wait};
 use std::time::Duration;
+use std::{hint, time};
 
 /// Most answers that one hold of the lock takes.
 const MOST: u64 = 16;
+
+/// How often the lock is tried before a thread sleeps for it.
+const TRIES: u32 = 100;
+
+/// For how many turns a thread pauses between two tries.
+const PAUSES: u32 = 8;
+
+/// No session has this number.
+const NOBODY: u64 = 0;
 
 /// For how long, in milliseconds, the clock isn't read while nothing is to do.
 const REST: u64 = 10;
@@ -48,6 +57,8 @@ pub(crate) struct Held {
     pub(crate) said: Result<Vec<Said>, Stopped>,
     pub(crate) is_open: bool,
     pub(crate) is_sealed: bool,
+    /// Whether a transaction votes, whose turns are to be taken.
+    pub(crate) is_voting: bool,
     /// A session that was shut, since its client reads no answers.
     pub(crate) shut: Option<u64>,
 }
@@ -56,6 +67,8 @@ pub(crate) struct Held {
 #[derive(Drop)]
 pub(crate) struct Turned {
     pub(crate) settled: Result<Settled, Stopped>,
+    /// Whether a transaction votes after it.
+    pub(crate) is_voting: bool,
     /// A session that was shut, since its client reads no answers.
     pub(crate) shut: Option<u64>,
     /// Whether all lines had ended.
@@ -118,6 +131,7 @@ fn hold<H: Backlog, A: Ledger, O: Ledger>(
         said,
         is_open: kept.is_open(asks.session()),
         is_sealed: kept.is_sealed(),
+        is_voting: kept.is_voting(),
         shut: None,
     }
 }
@@ -142,6 +156,20 @@ impl<H: Backlog, A: Ledger, O: Ledger> Floor<H, A, O> {
             most_waiting,
             ended: AtomicBool::new(false),
         })
+    }
+
+    // The history, once no other thread has it. To sleep for it costs more than most holds of it take, so it is tried
+    // for some microseconds first.
+    fn lock<T: Wait>(&self, rt: &T) -> MutexGuard<'_, Kept<H, A, O>> {
+        for _ in 0..TRIES {
+            if let Some(kept) = self.kept.try_lock() {
+                return kept;
+            }
+            for _ in 0..PAUSES {
+                hint::spin_loop();
+            }
+        }
+        self.kept.lock(rt)
     }
 
     // The signal of a session's line. Sessions may share one, so all that wait on it are woken.
@@ -171,9 +199,9 @@ impl<H: Backlog, A: Ledger, O: Ledger> Floor<H, A, O> {
         self.bytes.store(left, Ordering::SeqCst);
     }
 
-    // Wakes each line that has answers waiting. The first for which too many wait is shut, and answered: its client
-    // reads none, and holds up nobody else. The lock is held.
-    fn wake_lines<T: Wait>(&self, rt: &T, kept: &mut Kept<H, A, O>) -> Option<u64> {
+    // Wakes each line that has answers waiting, but that of the session whose own thread takes them. The first for which
+    // too many wait is shut, and answered: its client reads none, and holds up nobody else. The lock is held.
+    fn wake_lines<T: Wait>(&self, rt: &T, kept: &mut Kept<H, A, O>, own: u64) -> Option<u64> {
         let mut shut = None;
         let mut after = 0;
         for _ in rt.forever() {
@@ -184,7 +212,9 @@ impl<H: Backlog, A: Ledger, O: Ledger> Floor<H, A, O> {
                 kept.shut(session);
                 shut = Some(session);
             }
-            self.signal(session).notify_all();
+            if session != own {
+                self.signal(session).notify_all();
+            }
             after = session;
         }
         shut
@@ -204,8 +234,9 @@ impl<H: Backlog, A: Ledger, O: Ledger> Floor<H, A, O> {
     }
 
     /// An act of a line, which read and wrote so many bytes since its last one, and its next answers, in one hold of
-    /// the lock, after this reading of the clock, where it is a later one. All lines that have answers waiting then are woken, and the
-    /// settling worker where it has something to do.
+    /// the lock, after this reading of the clock, where it is a later one. All lines that have answers waiting then are
+    /// woken, and the settling worker where the act was stopped. Where a transaction votes then, its turns are the
+    /// caller's to take.
     pub(crate) fn act_and_take<T: Wait>(
         &self,
         rt: &T,
@@ -219,11 +250,12 @@ impl<H: Backlog, A: Ledger, O: Ledger> Floor<H, A, O> {
         ensures asks { Asks asks.old asks.new }
         ensures outs { outs.new ≡ taking outs.old (length (said_in result.said)) }
     {
-        let mut kept = self.kept.lock(rt);
+        let mut kept = self.lock(rt);
         self.weigh(&mut *kept, bytes);
+        kept.free_some();
         let mut held = hold(&mut *kept, asks, self.later(time), given, outs);
-        held.shut = self.wake_lines(rt, &mut *kept);
-        if held.acted.is_err() || kept.is_voting() {
+        held.shut = self.wake_lines(rt, &mut *kept, NOBODY);
+        if held.acted.is_err() {
             self.settling.notify_all();
         }
         held
@@ -239,7 +271,7 @@ impl<H: Backlog, A: Ledger, O: Ledger> Floor<H, A, O> {
     ) -> (Result<Vec<Said>, Stopped>, bool)
         ensures { outs.new ≡ taking outs.old (length (said_in result.0)) }
     {
-        let mut kept = self.kept.lock(rt);
+        let mut kept = self.lock(rt);
         self.weigh(&mut *kept, bytes);
         let said = take_from(&mut *kept, outs);
         (said, kept.is_sealed())
@@ -273,13 +305,15 @@ impl<H: Backlog, A: Ledger, O: Ledger> Floor<H, A, O> {
     }
 
     /// A settle turn, after this reading of the clock, where it is a later one. All lines that have answers
-    /// waiting then are woken.
-    pub(crate) fn settle<T: Wait>(&self, rt: &T, time: u64) -> Turned {
-        let mut kept = self.kept.lock(rt);
+    /// waiting then are woken, but that of the caller's own session, where it has one and takes them itself.
+    pub(crate) fn settle<T: Wait>(&self, rt: &T, time: u64, own: Option<u64>) -> Turned {
+        let mut kept = self.lock(rt);
+        kept.free_some();
         let settled = settle_at(&mut *kept, self.later(time));
         Turned {
             settled,
-            shut: self.wake_lines(rt, &mut *kept),
+            is_voting: kept.is_voting(),
+            shut: self.wake_lines(rt, &mut *kept, own.unwrap_or(NOBODY)),
             ended: self.ended.load(Ordering::SeqCst),
         }
     }
@@ -294,6 +328,11 @@ impl<H: Backlog, A: Ledger, O: Ledger> Floor<H, A, O> {
         let (_kept, _timed_out) = self
             .settling
             .wait_timeout(rt, kept, Duration::from_millis(REST));
+    }
+
+    /// Has the settling worker take the next turn.
+    pub(crate) fn call_worker(&self) {
+        self.settling.notify_all();
     }
 
     /// Tells the settling worker that all lines have ended.

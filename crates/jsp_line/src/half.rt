@@ -103,6 +103,8 @@ pub(crate) struct Acted {
     /// Whether the session was open after it.
     pub(crate) is_open: bool,
     pub(crate) is_sealed: bool,
+    /// Whether a transaction votes, whose turns are to be taken.
+    pub(crate) is_voting: bool,
     /// A session that was shut, since its client reads no answers.
     pub(crate) shut: Option<u64>,
 }
@@ -341,6 +343,7 @@ impl<O: Ledger, W: Write, S: Start> OutHalf<O, W, S> {
             said,
             is_open,
             is_sealed,
+            is_voting,
             shut,
         } = floor.act_and_take(rt, asks, time, self.bytes, given, &mut self.seat);
         self.bytes = 0;
@@ -358,6 +361,7 @@ impl<O: Ledger, W: Write, S: Start> OutHalf<O, W, S> {
             received,
             is_open,
             is_sealed,
+            is_voting,
             shut,
         }
     }

@@ -17,6 +17,7 @@ mod line;
 mod read;
 mod settle;
 mod shared;
+mod threads;
 mod transcript;
 
 pub use counted::Counted;
@@ -27,4 +28,5 @@ pub use hangup::Hangup;
 pub use line::LineDone;
 pub use read::ReadDone;
 pub use shared::Shared;
+pub use threads::start;
 pub use transcript::Transcript;

@@ -4,6 +4,7 @@ ghost use Rattle.jsp_closing.specs.declared.closed.Ended.TheVariants.{Bound};
 ghost use Rattle.jsp_line.specs.Seats.{IsSeated};
 ghost use Rattle.jsp_line.specs.Reading.{Faults, Reads};
 ghost use Rattle.jsp_line.specs.Halves.{Writes};
+ghost use denote.Param.Send.{IsSync, IsSend};
 
 use crate::counted::Counted;
 use crate::gate::{Clock, Gate};
@@ -11,6 +12,7 @@ use crate::half::{OutDone, OutHalf, Start};
 use crate::hangup::Hangup;
 use crate::read::ReadDone;
 use crate::shared::Shared;
+use crate::threads::try_start;
 use jsp_kept::{AskSeat, Backlog, OutSeat};
 use jsp_model::Why;
 use std::io::{Read, Write};
@@ -38,6 +40,53 @@ impl<
     C: Clock + Sync,
     T: Threads + Wait + time::Clock + Sync,
 > Shared<'_, H, A, O, G, C, T> {
+    // Reads and answers a line, and writes in a second thread what others cause to be said to it.
+    fn read_and_answer<
+        R: Read + Send + Drop,
+        W: Write + Send + Drop,
+        X: Hangup + Sync,
+        S: Start + Send + Sync,
+    >(
+        &self,
+        half: &Mutex<OutHalf<O, W, S>>,
+        reader: R,
+        hangup: &X,
+        asks: AskSeat<A>,
+        bound: u64,
+    ) -> (Option<Why>, (Counted<R>, ReadDone<A>))
+        ensures session { result.1.1.seat.session ≡ asks.session }
+        ensures reads { Reads asks.session (R.remaining reader) (R.remaining result.1.0.inner) result.1.1.transcript result.1.1.ended asks.count result.1.1.seat.count }
+        ensures faults { Faults result.1.1.ended 0 result.1.0.failures }
+        ensures bound { result.1.1.ended ≡ Bound → bound ≤ result.1.0.reads }
+    {
+        let session = asks.session();
+        thread::scope(
+            thread::scope_env(),
+            self.rt,
+            move |scope| -> (Option<Why>, (Counted<R>, ReadDone<A>))
+                requires { IsSync T.row × IsSync G.row × IsSync C.row × IsSend H.row × IsSend A.row × IsSync A.row × IsSend O.row × IsSync O.row × IsSend W.row × IsSend S.row × IsSync S.row × IsSync X.row }
+                ensures session { result.1.1.seat.session ≡ asks.session }
+                ensures reads { Reads asks.session (R.remaining reader) (R.remaining result.1.0.inner) result.1.1.transcript result.1.1.ended asks.count result.1.1.seat.count }
+                ensures faults { Faults result.1.1.ended 0 result.1.0.failures }
+                ensures bound { result.1.1.ended ≡ Bound → bound ≤ result.1.0.reads }
+            {
+                let answering = try_start(
+                    self.rt,
+                    scope,
+                    move || self.answer_all(half, hangup, session),
+                );
+                if answering.is_none() {
+                    // Nobody would write what others cause to be said to the line, so it ends.
+                    self.floor.shut(self.rt, session);
+                    hangup.hang_up();
+                }
+                let read = self.read_worker(half, reader, asks, bound);
+                let why = answering.and_then(|thread| thread.join(self.rt));
+                (why, read)
+            },
+        )
+    }
+
     // Serves a line, whose writer's first bytes are picked.
     fn serve_from<
         R: Read + Send + Drop,
@@ -63,13 +112,7 @@ impl<
     {
         let session = outs.session();
         let half = Mutex::new(OutHalf::<O, W, S>::new(self.alloc, outs, writer));
-        // Where no second thread can be had `join` runs the second call first: the line is then read to its end,
-        // and loses only what others cause to be said to it meanwhile.
-        let (why, (reader, read)) = thread::join(
-            self.rt,
-            || self.answer_all(&half, hangup, session),
-            || self.read_worker(&half, reader, asks, bound),
-        );
+        let (why, (reader, read)) = self.read_and_answer(&half, reader, hangup, asks, bound);
         let mut half = half.into_inner();
         let sent = half.flush();
         self.tell(session, sent);

@@ -124,7 +124,10 @@ impl<H: Backlog, A: Ledger, O: Ledger, G: Gate, C: Clock, T: Wait + time::Clock>
         course.bytes = 0;
         course.is_sealed = acted.is_sealed;
         self.cut(acted.shut);
-        let why = acted.why();
+        let mut why = acted.why();
+        if why.is_none() && acted.is_voting {
+            why = self.take_turns(half, seat.session()).err();
+        }
         if why.is_some() {
             course.why = why;
             Some(Ended::Stopped)

@@ -1,11 +1,16 @@
-//! The worker that settles.
+//! The turns of transactions that vote: by the worker that settles, and by the thread whose act began a vote.
 use crate::gate::{Clock, Gate};
+use crate::half::{OutHalf, Start};
 use crate::shared::Shared;
 use jsp_kept::Backlog;
 use jsp_model::{Settled, Why};
-use std::sync::Wait;
+use std::io::Write;
 use std::sync::ledger::Ledger;
+use std::sync::{Mutex, Wait};
 use std::time;
+
+/// How many turns a line takes at once: those of a transaction that joined 64 spaces, and of another one.
+const TURNS: u32 = 130;
 
 impl<H: Backlog, A: Ledger, O: Ledger, G: Gate, C: Clock, T: Wait + time::Clock> Shared<
     '_,
@@ -20,7 +25,7 @@ impl<H: Backlog, A: Ledger, O: Ledger, G: Gate, C: Clock, T: Wait + time::Clock>
     /// that finds no memory is taken again.
     pub fn settle_worker(&self) -> Option<Why> {
         for _ in self.rt.forever() {
-            let turned = self.floor.settle(self.rt, self.clock.now());
+            let turned = self.floor.settle(self.rt, self.clock.now(), None);
             self.cut(turned.shut);
             match turned.settled {
                 Ok(Settled::Idle) if turned.ended => break,
@@ -33,5 +38,27 @@ impl<H: Backlog, A: Ledger, O: Ledger, G: Gate, C: Clock, T: Wait + time::Clock>
             }
         }
         None
+    }
+
+    /// Takes the turns of transactions that vote, each in a hold of its own, until none does, and writes to the line of
+    /// the session what they say to it. What is left after many turns, or where one is stopped, is the settling
+    /// worker's.
+    pub(crate) fn take_turns<W: Write, S: Start>(
+        &self,
+        half: &Mutex<OutHalf<O, W, S>>,
+        session: u64,
+    ) -> Result<(), Why> {
+        for _ in 0..TURNS {
+            let turned = self.floor.settle(self.rt, self.clock.now(), Some(session));
+            self.cut(turned.shut);
+            if turned.settled.is_err() {
+                break;
+            }
+            if !turned.is_voting {
+                return self.drain(half, session);
+            }
+        }
+        self.floor.call_worker();
+        self.drain(half, session)
     }
 }

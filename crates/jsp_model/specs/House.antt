@@ -1,6 +1,7 @@
 -- What the calls of a house promise.
-use Rattle.std.specs.Prelude.{◌≡◌, ℕ, ◌≤◌, Bool, true, false, not, if◌then◌else◌, ◌&&◌, ◌==◌, nat_lt, nat_le, List, [], ◌∷◌, ◌++◌, length, map, filter, find, Option, Some, None, Result, Ok, Err, option_map, option_to_list, IsTrue}
+use Rattle.std.specs.Prelude.{◌≡◌, ℕ, ◌≤◌, Bool, true, false, not, if◌then◌else◌, ◌&&◌, ◌||◌, ◌==◌, nat_lt, nat_le, List, [], ◌∷◌, ◌++◌, length, map, filter, find, Option, Some, None, Result, Ok, Err, option_map, option_to_list, IsTrue}
 use Rattle.std.specs.List.{list_all}
+use Rattle.std.specs.Option.{option_map_or}
 use Rattle.jsp_model.specs.declared.state.State.{State}
 use Rattle.jsp_model.specs.declared.step.Step.{Step}
 use Rattle.jsp_model.specs.declared.step.Step.TheVariants as step
@@ -11,9 +12,10 @@ use Rattle.jsp_model.specs.declared.house.Why.{Why}
 use Rattle.jsp_model.specs.declared.house.Why.TheVariants as why
 use Rattle.jsp_model.specs.declared.house.Settled.{Settled}
 use Rattle.jsp_model.specs.declared.house.Settled.TheVariants as settled
-use Rattle.jsp_model.specs.Lookup.{contains, is_open}
+use Rattle.jsp_model.specs.Lookup.{contains, is_open, registration_of}
+use Rattle.jsp_model.specs.Limits.{are_apart}
 use Rattle.jsp_model.specs.Due.{due}
-use Rattle.jsp_model.specs.Quiet.{is_quiet, are_quiet}
+use Rattle.jsp_model.specs.Quiet.{must_wait, is_quiet, are_quiet}
 use Rattle.jsp_model.specs.Touches.{touches}
 use Rattle.jsp_model.specs.Steps.{next, is_fault}
 use Rattle.jsp_model.specs.Runs.{IsRun, state_after}
@@ -43,6 +45,28 @@ own_of steps = map bare (filter (λ x. not (is_unasked x)) steps)
 abbrev pub touched : State → List Step → List ℕ
 touched st [] = []
 touched st (step ∷ steps) = touches st step ++ touched (next st step) steps
+
+-- ---- the order of steps that nobody asked for
+
+-- nobody who waits at the space could be answered
+unfoldable pub all_must_wait : State → ℕ → Bool
+all_must_wait st space = list_all (λ b. not (b.space == space) || must_wait st b) st.blocked
+
+-- An event is told only where nobody who waits at its space could be answered, and what is due ends only where what is
+-- owed is quiet.
+abbrev pub comes_in_turn : State → List ℕ → Step → Bool
+comes_in_turn st owed (step.Tell n) = option_map_or (λ r. all_must_wait st r.space) (registration_of st n) true
+comes_in_turn st owed (step.Due item) = are_quiet st owed
+comes_in_turn st owed _ = true
+
+-- each step of a run does, where what a step touches is owed from then on
+abbrev pub come_in_turn : State → List ℕ → List Step → Bool
+come_in_turn st owed [] = true
+come_in_turn st owed (step ∷ steps) = comes_in_turn st owed step && come_in_turn (next st step) (touches st step ++ owed) steps
+
+-- no space is owed twice, unless one was before
+abbrev pub OwesOnce : List ℕ → List ℕ → Type 0
+OwesOnce owed left = IsTrue (are_apart owed) → IsTrue (are_apart left)
 
 -- ---- what a call adds to the log
 
@@ -96,6 +120,8 @@ pub record Acts (old new : State) (owed left : List ℕ) (before after : List St
   pub makes : Makes old new before after steps
   pub own : own_of steps ≡ acted old x result
   pub leaves : Leaves result new (touched old steps ++ owed) left
+  pub turn : IsTrue (come_in_turn old owed steps)
+  pub once : OwesOnce owed left
 
 -- an Open that is stopped isn't done
 abbrev pub OpensNone : {A : Type 0} → Input → Result A Stopped → Type 0
@@ -110,6 +136,8 @@ pub record Goes (old new : State) (owed left : List ℕ) (before after : List St
   pub makes : Makes old new before after steps
   pub own : own_of steps ≡ []
   pub covers : Covers left (touched old steps ++ owed)
+  pub turn : IsTrue (come_in_turn old owed steps)
+  pub once : OwesOnce owed left
 
 -- Nothing is due, and what is owed and what the input's step touches is quiet.
 pub record IsReady (st : State) (spaces : List ℕ) (x : Input) : Type 0 where
@@ -151,6 +179,8 @@ pub record Settles (old new : State) (owed left : List ℕ) (before after : List
   pub own : own_of steps ≡ settled_by old result
   pub leaves : Leaves result new (touched old steps ++ owed) left
   pub answers : AnswersOf old new left result
+  pub turn : IsTrue (come_in_turn old owed steps)
+  pub once : OwesOnce owed left
 
 -- what is owed is made, and what is due, without a step of its own
 pub record Finishes (old new : State) (owed left : List ℕ) (before after : List Step) (result : Result Unit Stopped) : Type 0 where
@@ -158,6 +188,8 @@ pub record Finishes (old new : State) (owed left : List ℕ) (before after : Lis
   pub makes : Makes old new before after steps
   pub own : own_of steps ≡ []
   pub leaves : Leaves result new (touched old steps ++ owed) left
+  pub turn : IsTrue (come_in_turn old owed steps)
+  pub once : OwesOnce owed left
 
 -- ---- the room and the bound of the log
 
@@ -169,14 +201,15 @@ abbrev pub IsWithin : Option ℕ → ℕ → Type 0
 IsWithin None n = Unit {0}
 IsWithin (Some most) n = n ≤ most
 
--- the bound stays, and the log stays within it
-pub record KeepsBound (old new : Option ℕ) (before after : ℕ) : Type 0 where
-  pub same : new ≡ old
-  pub within : IsWithin old before → IsWithin old after
-
 abbrev pub is_full : Option ℕ → ℕ → Bool
 is_full None n = false
 is_full (Some most) n = nat_le most n
+
+-- The bound stays, and the log stays within it. A full log stays as it is, also one past its bound.
+pub record KeepsBound (old new : Option ℕ) (before after : ℕ) : Type 0 where
+  pub same : new ≡ old
+  pub within : IsWithin old before → IsWithin old after
+  pub full : is_full old before ≡ true → after ≡ before
 
 -- A house is stopped by want of memory, or where the log has reached its bound.
 abbrev pub MayStop : Option ℕ → ℕ → Why → Type 0

@@ -1,10 +1,10 @@
 //! What keeps a state of the abstract spaces.
-ghost use Rattle.std.specs.Prelude.{◌≡◌, ◌<◌, ◌-◌, IsTrue, false, List, ℕ, Option, Some, is_none, length, take, IfOk, IfErr, OnOk, OnErr, vec_len, vec_capacity};
+ghost use Rattle.std.specs.Prelude.{◌≡◌, ◌<◌, ◌-◌, IsTrue, false, List, ℕ, Option, Some, None, is_none, length, take, IfOk, IfErr, OnOk, OnErr, vec_len, vec_capacity};
 ghost use Rattle.jsp_model.specs.declared.state.State.{State};
 ghost use Rattle.jsp_model.specs.Lookup.{is_open};
 ghost use Rattle.jsp_model.specs.Outboxes.{outbox_of};
-ghost use Rattle.jsp_model.specs.Settling.{first_unquiet};
-ghost use Rattle.jsp_model.specs.House.{is_input, Goes, IsReady, Acts, Settles, Finishes, Makes, OpensNone, KeepsRoom, KeepsBound, MayStop, WasFull, handed_out, shuts, next_waiting, awaits_decision, next_turn};
+ghost use Rattle.jsp_model.specs.Settling.{first_unquiet, settle_step};
+ghost use Rattle.jsp_model.specs.House.{is_input, Goes, IsReady, accepts, Acts, Settles, Finishes, Makes, OpensNone, KeepsRoom, KeepsBound, MayStop, WasFull, handed_out, shuts, next_waiting, awaits_decision, next_turn};
 
 use crate::{Image, Step};
 use jsp_reply::{Refusal, Said};
@@ -114,8 +114,22 @@ pub trait House: Drop {
     fn act(&mut self, input: Input, log: &mut Vec<Step>) -> Result<(), Stopped>
         requires { IsTrue (is_input input) }
         ensures acts { Acts (view self.old) (view self.new) (debt self.old) (debt self.new) log.old.items log.new.items input result }
+        ensures passed_over { accepts (view self.old) input ≡ false → IfErr result (λ e. e.done ≡ false) }
         ensures opens { OpensNone input result }
         ensures ready { IsReady (view self.old) (debt self.old) input → WasFull (bound_of self.old) (vec_len log.old) result }
+        ensures why { IfErr result (λ e. MayStop (bound_of self.old) (vec_len log.new) e.why) }
+        ensures room { KeepsRoom (view self.old) (view self.new) (vec_capacity log.old - vec_len log.old) (vec_capacity log.new - vec_len log.new) }
+        ensures bound { KeepsBound (bound_of self.old) (bound_of self.new) (vec_len log.old) (vec_len log.new) };
+
+    /// The same of a house that was made ready for the input: what was found quiet then isn't looked at
+    /// again.
+    fn act_ready(&mut self, input: Input, log: &mut Vec<Step>) -> Result<(), Stopped>
+        requires input { IsTrue (is_input input) }
+        requires ready { IsReady (view self.old) (debt self.old) input }
+        ensures acts { Acts (view self.old) (view self.new) (debt self.old) (debt self.new) log.old.items log.new.items input result }
+        ensures passed_over { accepts (view self.old) input ≡ false → IfErr result (λ e. e.done ≡ false) }
+        ensures opens { OpensNone input result }
+        ensures full { WasFull (bound_of self.old) (vec_len log.old) result }
         ensures why { IfErr result (λ e. MayStop (bound_of self.old) (vec_len log.new) e.why) }
         ensures room { KeepsRoom (view self.old) (view self.new) (vec_capacity log.old - vec_len log.old) (vec_capacity log.new - vec_len log.new) }
         ensures bound { KeepsBound (bound_of self.old) (bound_of self.new) (vec_len log.old) (vec_len log.new) };
@@ -125,6 +139,7 @@ pub trait House: Drop {
     /// configured order, is made quiet. What an earlier call left is finished first.
     fn settle(&mut self, log: &mut Vec<Step>) -> Result<Settled, Stopped>
         ensures settles { Settles (view self.old) (view self.new) (debt self.old) (debt self.new) log.old.items log.new.items result }
+        ensures unasked { settle_step (view self.old) ≡ None → IfErr result (λ e. e.done ≡ false) }
         ensures why { IfErr result (λ e. MayStop (bound_of self.old) (vec_len log.new) e.why) }
         ensures room { KeepsRoom (view self.old) (view self.new) (vec_capacity log.old - vec_len log.old) (vec_capacity log.new - vec_len log.new) }
         ensures bound { KeepsBound (bound_of self.old) (bound_of self.new) (vec_len log.old) (vec_len log.new) };
@@ -132,6 +147,7 @@ pub trait House: Drop {
     /// Makes what an earlier call left, and what is due, without a step of its own.
     fn finish(&mut self, log: &mut Vec<Step>) -> Result<(), Stopped>
         ensures finishes { Finishes (view self.old) (view self.new) (debt self.old) (debt self.new) log.old.items log.new.items result }
+        ensures not_done { IfErr result (λ e. e.done ≡ false) }
         ensures why { IfErr result (λ e. MayStop (bound_of self.old) (vec_len log.new) e.why) }
         ensures room { KeepsRoom (view self.old) (view self.new) (vec_capacity log.old - vec_len log.old) (vec_capacity log.new - vec_len log.new) }
         ensures bound { KeepsBound (bound_of self.old) (bound_of self.new) (vec_len log.old) (vec_len log.new) };

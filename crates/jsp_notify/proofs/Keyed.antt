@@ -41,11 +41,11 @@ at_space seed space r h =
     (has_later (space_key seed r.space ∷ template_key seed r.space r.template ∷ []) k (caller_key seed r)
     (has_first (template_key seed r.space r.template ∷ []) k (space_key seed r.space) (ap (space_key seed) (eqb_eq r.space space h)))))
 
-pub news_of : (seed : ℕ) (classes : List Class) (caller : Option ℕ) (row : Row) (r : Registration) → is_news classes caller r row ≡ true → is_sought (entry_keys seed row.space row.entry.fields) (registration_keys seed r) ≡ true
+pub news_of : (seed : ℕ) (classes : List Class) (caller : Option ℕ) (row : Row) (r : Registration) → is_news classes caller r row ≡ true → is_sought (entry_keys seed classes row.space row.entry) (registration_keys seed r) ≡ true
 news_of seed classes caller row r h =
     let here = (and_both (is_free r.transaction caller) (r.space == row.space && matches classes r.template row.entry) h).1 in
     let two = and_both (r.space == row.space) (matches classes r.template row.entry) here in
-    let sought = entry_keys seed row.space row.entry.fields in
+    let sought = entry_keys seed classes row.space row.entry in
     let k = template_key seed r.space r.template in
     let there : contains sought k ≡ true = subst (λ (s : ℕ). contains sought (template_key seed s r.template) ≡ true) (sym (eqb_eq r.space row.space two.0)) (template_stands seed row.space classes row.entry r.template two.1) in
     sought_too sought (registration_keys seed r) k there

@@ -6,7 +6,9 @@ ghost use Rattle.jsp_keyed.specs.Templates.{entry_keys};
 ghost use Rattle.jsp_notify.specs.Owing.{is_news as has_news};
 
 use crate::owing::is_news;
-use jsp_keyed::{Keys, entry_key, key_of_session, key_of_space, key_of_transaction};
+use jsp_keyed::{
+    Keys, count_entry_keys, entry_key, key_of_session, key_of_space, key_of_transaction,
+};
 use jsp_model::{Registration, Row};
 use jsp_sight::is_caller;
 use jsp_table::Test;
@@ -121,14 +123,13 @@ impl<'a> Test<Registration> for News<'a> {
 }
 
 impl<'a> Keys for News<'a> {
-    ghost sought = { λ t seed. entry_keys seed t.row.now.space t.row.now.entry.fields };
+    ghost sought = { λ t seed. entry_keys seed t.classes.now t.row.now.space t.row.now.entry };
 
     fn sought_count(&self, _seed: u64) -> usize {
-        self.row.entry.fields.as_slice().len() + 1
+        count_entry_keys(self.classes, &self.row.entry)
     }
 
     fn sought_key(&self, seed: u64, place: usize) -> u64 {
-        let fields = self.row.entry.fields.as_slice();
-        entry_key(seed, self.row.space, fields, place)
+        entry_key(seed, self.classes, self.row.space, &self.row.entry, place)
     }
 }

@@ -3,8 +3,17 @@ use clap::builder::ValueParser;
 use clap::{Arg, ArgAction, Command};
 use std::alloc::{AllocError, Global};
 
+/// The version, as CHANGELOG.md has it.
+const VERSION: &str = "0.1.0";
+
 /// The subcommand that serves clients.
 pub(crate) const LISTEN: &str = "listen";
+
+/// The subcommand that is a client.
+pub(crate) const CLIENT: &str = "client";
+
+/// The id of the one request of a client.
+pub(crate) const REQUEST: &str = "REQUEST";
 
 /// The id of the spaces' names.
 pub(crate) const NAMES: &str = "NAME";
@@ -15,7 +24,7 @@ pub(crate) const AUDIT: &str = "audit";
 /// The id of the flag that asks for rows to be looked at one by one.
 pub(crate) const SCAN: &str = "scan";
 
-/// The id of the address to listen on.
+/// The id of the address to listen on, or to connect to.
 pub(crate) const ADDRESS: &str = "ADDR";
 
 /// The id of the number of connections to serve.
@@ -72,10 +81,12 @@ pub(crate) fn command<'a>(alloc: Global) -> Result<Command<'a>, AllocError> {
     Command::new(alloc, "jsp")
         .bin_name("jsp")?
         .about("Shared spaces of typed entries: JavaSpaces, proved from bytes to bytes")
+        .version(VERSION)
         .subcommand_required(true)
         .arg_required_else_help(false)
         .subcommand(script(alloc)?)?
-        .subcommand(listen(alloc)?)
+        .subcommand(listen(alloc)?)?
+        .subcommand(client(alloc)?)
 }
 
 fn script<'a>(alloc: Global) -> Result<Command<'a>, AllocError> {
@@ -147,6 +158,19 @@ fn listen<'a>(alloc: Global) -> Result<Command<'a>, AllocError> {
         .arg(until_input)?
         .arg(address)?
         .arg(names(alloc))
+}
+
+fn client<'a>(alloc: Global) -> Result<Command<'a>, AllocError> {
+    let address = Arg::new(alloc, ADDRESS)
+        .help("The server, as 127.0.0.1:7070")
+        .required(true);
+    let request = Arg::new(alloc, REQUEST).help(
+        "The one request that is made, in place of those on standard input, as 'take a Job'",
+    );
+    Command::new(alloc, CLIENT)
+        .about("Makes the requests on standard input, a line each, and prints what the server says")
+        .arg(address)?
+        .arg(request)
 }
 
 fn names<'a>(alloc: Global) -> Arg<'a> {

@@ -1,5 +1,7 @@
 //! Why the program ends without its work done.
+use crate::spaces::BadName;
 use jsp_serve::RunFault;
+use jsp_shell::ShellFault;
 use std::alloc::AllocError;
 use std::io;
 use std::process::ExitCode;
@@ -10,8 +12,8 @@ use thiserror::Error;
 pub(crate) enum Fault {
     #[error("arguments cannot be read")]
     Arguments,
-    #[error("bad space name")]
-    BadName,
+    #[error("bad space name: {0}")]
+    BadName(BadName),
     #[error("out of memory")]
     NoMemory,
     #[error("cannot listen: {0}")]
@@ -22,6 +24,10 @@ pub(crate) enum Fault {
     Serve,
     #[error("its history isn't that of what its lines read and wrote")]
     Audit,
+    #[error(transparent)]
+    Shell(ShellFault),
+    #[error("cannot read standard input in a thread")]
+    Spawn,
 }
 
 impl Fault {
@@ -29,9 +35,14 @@ impl Fault {
     /// else 1.
     pub(crate) fn status(&self) -> ExitCode {
         ExitCode::from(match self {
-            Fault::Arguments | Fault::BadName => 2,
+            Fault::Arguments | Fault::BadName(_) => 2,
             Fault::Audit => 3,
-            Fault::NoMemory | Fault::Listen(_) | Fault::Write | Fault::Serve => 1,
+            Fault::NoMemory
+            | Fault::Listen(_)
+            | Fault::Write
+            | Fault::Serve
+            | Fault::Shell(_)
+            | Fault::Spawn => 1,
         })
     }
 }
@@ -49,5 +60,11 @@ impl From<RunFault> for Fault {
             RunFault::Spawn => Fault::Serve,
             RunFault::Audit => Fault::Audit,
         }
+    }
+}
+
+impl From<ShellFault> for Fault {
+    fn from(fault: ShellFault) -> Fault {
+        Fault::Shell(fault)
     }
 }

@@ -5,27 +5,35 @@
 //! `--scan` it looks at each entry in every search. `jsp listen ADDR NAME..` serves clients over TCP. Both end with
 //! status 0, also after help, with 2 where the arguments can't be used, with 3 where a server's history differs from
 //! what its lines read and wrote, and else with 1 after the first fault met, which is told on standard error.
+//! `jsp client ADDR` makes requests of a server, and ends with 1 where one was refused too.
 #![tactic(auto)]
 
 mod arguments;
+mod client;
 mod fault;
 mod listen;
+mod spaces;
 
-use arguments::{AUDIT, LISTEN, NAMES, SCAN, command};
+use arguments::{AUDIT, CLIENT, LISTEN, SCAN, command};
 use clap::ArgMatches;
 use clap::error::{Error, ErrorKind};
+use client::Shell;
 use fault::Fault;
 use jsp_serve::{Config, Options, script};
-use jsp_types::{Items, NoMemory, Text};
-use listen::Server;
+use jsp_shell::Typing;
+use listen::{End, Server};
+use spaces::config;
 use std::alloc::Global;
 use std::env::Env;
 use std::io::{self, Stderr, Stdin, Stdout};
 use std::net::{Net, TcpListener, TcpStream};
 use std::process::ExitCode;
-use std::thread;
+use std::random::RandomSource;
+use std::sync::Wait;
+use std::thread::{self, Threads};
+use std::time::Clock;
 
-/// What a script reads and writes.
+/// What a script or a client reads and writes.
 #[derive(Drop)]
 struct Streams {
     input: Stdin,
@@ -40,6 +48,14 @@ enum Job {
     Told(ExitCode),
     Script(Config, Options),
     Listen(Server),
+    Client(Shell),
+}
+
+/// What reads standard input, in a thread of its own.
+#[derive(Drop)]
+enum Reader {
+    End(End),
+    Typing(Typing),
 }
 
 fn main(rt: HostRuntime) -> ExitCode {
@@ -48,22 +64,20 @@ fn main(rt: HostRuntime) -> ExitCode {
         out: rt.stdout(),
         faults: rt.stderr(),
     };
-    let done = match read_job(&rt) {
-        Ok(Job::Told(status)) => Ok(status),
-        Ok(Job::Script(config, options)) => Ok(run_script(rt.alloc(), &config, options, streams)),
-        Ok(Job::Listen(server)) => match server.end() {
-            Ok(Some(end)) => {
-                let input = streams.input;
-                match rt.clone() {
-                    // Nobody waits for this thread: the server may end before.
-                    Ok(system) => match thread::spawn(&rt, move || end.come(&system, input)) {
-                        Ok(_) => server.serve(&rt),
-                        Err(_) => Err(Fault::Serve),
-                    },
-                    Err(_) => Err(Fault::NoMemory),
+    let done = match read_job(&rt, &streams) {
+        Ok(job) => match job.reader() {
+            Ok(Some(reader)) => match rt.clone() {
+                Ok(system) => {
+                    let input = streams.input;
+                    // Nobody waits for this thread: what it reads for may end before.
+                    match thread::spawn(&rt, move || reader.read(&system, input)) {
+                        Ok(_) => job.run(&rt, streams),
+                        Err(_) => Err(Fault::Spawn),
+                    }
                 }
-            }
-            Ok(None) => server.serve(&rt),
+                Err(_) => Err(Fault::NoMemory),
+            },
+            Ok(None) => job.run(&rt, streams),
             Err(fault) => Err(fault),
         },
         Err(fault) => Err(fault),
@@ -78,10 +92,49 @@ fn main(rt: HostRuntime) -> ExitCode {
     }
 }
 
+impl Job {
+    /// What is to read standard input meanwhile.
+    fn reader(&self) -> Result<Option<Reader>, Fault> {
+        match self {
+            Job::Told(_) | Job::Script(_, _) => Ok(None),
+            Job::Listen(server) => match server.end()? {
+                Some(end) => Ok(Some(Reader::End(end))),
+                None => Ok(None),
+            },
+            Job::Client(shell) => match shell.typing()? {
+                Some(typing) => Ok(Some(Reader::Typing(typing))),
+                None => Ok(None),
+            },
+        }
+    }
+
+    fn run<R: AllocGlobal + Print + Eprint + Clock + RandomSource + Threads + Wait + Sync>(
+        self,
+        rt: &R,
+        streams: Streams,
+    ) -> Result<ExitCode, Fault> {
+        match self {
+            Job::Told(status) => Ok(status),
+            Job::Script(config, options) => Ok(run_script(rt.alloc(), &config, options, streams)),
+            Job::Listen(server) => server.serve(rt),
+            Job::Client(shell) => shell.run(rt),
+        }
+    }
+}
+
+impl Reader {
+    fn read<R: Clock + Net<Stream = TcpStream> + Wait>(self, rt: &R, input: Stdin) {
+        match self {
+            Reader::End(end) => end.come(rt, input),
+            Reader::Typing(typing) => typing.run(rt, input),
+        }
+    }
+}
+
 /// What the arguments ask for. A server listens by then.
 fn read_job<
     R: AllocGlobal + Env + Print + Eprint + Net<Listener = TcpListener, Stream = TcpStream>,
->(rt: &R) -> Result<Job, Fault> {
+>(rt: &R, streams: &Streams) -> Result<Job, Fault> {
     let alloc = rt.alloc();
     let words = words(rt)?;
     let matches = match command(alloc)?.try_get_matches_from(words.as_slice()) {
@@ -91,9 +144,10 @@ fn read_job<
     let Some((kind, given)) = matches.subcommand() else {
         return Err(Fault::Arguments);
     };
-    let Some(config) = config(alloc, given)? else {
-        return Err(Fault::BadName);
-    };
+    if kind == CLIENT {
+        return Ok(Job::Client(Shell::connect(rt, given, streams)?));
+    }
+    let config = config(alloc, given)?;
     match kind {
         LISTEN => Ok(Job::Listen(Server::listen(rt, config, given)?)),
         _ => {
@@ -123,17 +177,6 @@ fn run_script(alloc: Global, config: &Config, options: Options, streams: Streams
     } = streams;
     let ending = script(alloc, config, options, &mut input, &mut out, &mut faults);
     ExitCode::from(ending.status)
-}
-
-/// The config of the names that were given, or none where they break its limits.
-fn config(alloc: Global, given: &ArgMatches<'_>) -> Result<Option<Config>, NoMemory> {
-    let mut spaces = Vec::new(alloc);
-    if let Some(names) = given.get_strs(NAMES) {
-        for name in names {
-            spaces.push(Text::from_str(alloc, name)?)?;
-        }
-    }
-    Ok(Config::new(Items::from_vec(spaces)))
 }
 
 /// Shows help, or what is wrong with the arguments.

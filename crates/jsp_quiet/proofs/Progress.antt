@@ -45,7 +45,7 @@ taken_has (suc m) [] n h = absurd h
 taken_has (suc m) (x ∷ ns) n (inl e) = inl e
 taken_has (suc m) (x ∷ ns) n (inr h) = inr (taken_has m ns n h)
 
-find_only : {A : Type 0} (f : A → ℕ) (xs : List A) (y : A) → Rising f xs → Has xs y → find (λ x. f x == f y) xs ≡ Some y
+pub find_only : {A : Type 0} (f : A → ℕ) (xs : List A) (y : A) → Rising f xs → Has xs y → find (λ x. f x == f y) xs ≡ Some y
 find_only f [] y r h = absurd h
 find_only f (x ∷ xs) y (l, r) (inl e) = let w : (f x == f y) ≡ true = eq-eqb (f x) (f y) (ap f e) in rw w (ap Some e)
 find_only f (x ∷ xs) y (l, r) (inr h) =

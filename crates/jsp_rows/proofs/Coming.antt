@@ -111,5 +111,8 @@ pub touches_bare : (st : State) (x y : Step) → bare x ≡ bare y → touches s
 touches_bare st x y same = of_bare st x ∙ ap (touches st) same ∙ sym (of_bare st y)
 
 -- it may come as well after steps that nobody asked for
+pub goes_leave_votes : (old new : State) (owed left : List ℕ) (before after : List Step) → Goes old new owed left before after → LeavesVotes old new
+goes_leave_votes old new owed left before after g = subst (LeavesVotes old) g.makes.view (free_run_leaves old g.steps g.makes.run g.own)
+
 pub goes_still : (old new : State) (owed left : List ℕ) (before after : List Step) (x : Step) → Goes old new owed left before after → may_come old x ≡ true → may_come new x ≡ true
-goes_still old new owed left before after x g h = may_still_come old new x (subst (LeavesVotes old) g.makes.view (free_run_leaves old g.steps g.makes.run g.own)) h
+goes_still old new owed left before after x g h = may_still_come old new x (goes_leave_votes old new owed left before after g) h

@@ -1,7 +1,9 @@
+pub mod After
 pub mod LeastRows
 pub mod HandingOut
 pub mod Places
 pub mod QuietingSteps
+pub mod Order
 pub mod Going
 pub mod Coming
 pub mod Logging

@@ -1,7 +1,6 @@
--- Opening a session, after what an earlier call left.
+-- Opening a session.
 use Rattle.std.proofs.Common.{◌≡◌, refl, ap, sym, ◌∙◌, subst, ℕ, List, [], ◌∷◌, ◌++◌, Bool, true, false, ◌&&◌, Result, Ok, Err}
 use Rattle.std.specs.Prelude.{None, IfErr}
-use Rattle.std.specs.List.{list_all}
 use Rattle.std.proofs.lemmas.Bool.{and_parts, and_from}
 use Rattle.jsp_model.specs.declared.state.State.{State}
 use Rattle.jsp_model.specs.declared.step.Step.{Step}
@@ -14,19 +13,15 @@ use Rattle.jsp_model.specs.Due.{due}
 use Rattle.jsp_model.specs.Quiet.{is_quiet, are_quiet}
 use Rattle.jsp_model.specs.Touches.{touches}
 use Rattle.jsp_model.specs.Steps.{is_legal, next}
-use Rattle.jsp_model.specs.Runs.{state_after}
 use Rattle.jsp_model.specs.House.{Goes, Acts, OpensNone, accepts, touched}
-use Rattle.jsp_model.proofs.Joining.{own_of-append, Makes-then}
 use Rattle.jsp_rows.specs.Owing.{IsDone}
-use Rattle.jsp_quiet.proofs.Covering.{all_both, all_parts, covered, touched-append}
 use Rattle.jsp_rows.proofs.Going.{makes_one}
-use Rattle.jsp_rows.proofs.Coming.{goes_still}
 
 -- ---- the step
 
-pub open_legal : (old mid : State) (owed left : List ℕ) (before after : List Step) (s : ℕ) → Goes old mid owed left before after → accepts old (input.Open s) ≡ true → is_legal mid (step.Open s) ≡ true
+pub open_legal : (st : State) (s : ℕ) → accepts st (input.Open s) ≡ true → is_legal st (step.Open s) ≡ true
 unfolding is_legal
-open_legal old mid owed left before after s g h = goes_still old mid owed left before after (step.Open s) g h
+open_legal st s h = h
 
 due_open : (st : State) (s : ℕ) → due (next st (step.Open s)) ≡ due st
 unfolding due next said
@@ -59,26 +54,26 @@ opens_stopped old new owed left before after x e not_done g = record {
   makes = g.makes;
   own = g.own ∙ sym (rw (not_done, and_false (accepts old x)) refl);
   leaves = g.covers;
+  turn = g.turn;
+  once = g.once;
 }
 
-pub opens : (old mid new : State) (owed debt left : List ℕ) (before log after : List Step) (s : ℕ) → Goes old mid owed debt before log → IsDone mid debt None → accepts old (input.Open s) ≡ true
-    → new ≡ next mid (step.Open s) → after ≡ log ++ step.Open s ∷ [] → left ≡ [] → Acts old new owed left before after (input.Open s) (Ok tt)
-opens old mid new owed debt left before log after s g d may made entered none =
-    let legal : is_legal mid (step.Open s) ≡ true = open_legal old mid owed debt before log s g may in
-    let earlier = all_parts (is_quiet mid) (touched old g.steps) owed (covered (is_quiet mid) debt (touched old g.steps ++ owed) g.covers d.owed) in
-    let here : touched (state_after old g.steps) (step.Open s ∷ []) ≡ [] = ap (λ w. w ++ []) (touches_open (state_after old g.steps) s) in
-    let same : touched old (g.steps ++ step.Open s ∷ []) ≡ touched old g.steps ++ [] = touched-append old g.steps (step.Open s ∷ []) ∙ ap (λ w. touched old g.steps ++ w) here in
-    let all : are_quiet mid (touched old (g.steps ++ step.Open s ∷ []) ++ owed) ≡ true =
-    all_both (is_quiet mid) (touched old (g.steps ++ step.Open s ∷ [])) owed (ap (list_all (is_quiet mid)) same ∙ all_both (is_quiet mid) (touched old g.steps) [] earlier.0 refl) earlier.1 in
+pub opens : (old new : State) (owed left : List ℕ) (before after : List Step) (s : ℕ) → IsDone old owed None → accepts old (input.Open s) ≡ true
+    → new ≡ next old (step.Open s) → after ≡ before ++ step.Open s ∷ [] → left ≡ [] → Acts old new owed left before after (input.Open s) (Ok tt)
+opens old new owed left before after s d may made entered none =
+    let here : touched old (step.Open s ∷ []) ≡ [] = ap (λ w. w ++ []) (touches_open old s) in
+    let all : are_quiet old (touched old (step.Open s ∷ []) ++ owed) ≡ true = ap (λ w. are_quiet old (w ++ owed)) here ∙ d.owed in
     record {
-      steps = g.steps ++ step.Open s ∷ [];
-      makes = Makes-then old mid new before log after g.steps (step.Open s ∷ []) g.makes (makes_one mid new log after (step.Open s) legal made entered);
-      own = own_of-append g.steps (step.Open s ∷ []) ∙ rw (g.own, may) refl;
+      steps = step.Open s ∷ [];
+      makes = makes_one old new before after (step.Open s) (open_legal old s may) made entered;
+      own = sym (rw may refl);
       leaves = (
-        ap due made ∙ due_open mid s ∙ d.nothing_due,
-        subst (λ (w : State). are_quiet w (touched old (g.steps ++ step.Open s ∷ []) ++ owed) ≡ true) (sym made) (all_open mid s (touched old (g.steps ++ step.Open s ∷ []) ++ owed) all),
+        ap due made ∙ due_open old s ∙ d.nothing_due,
+        subst (λ (w : State). are_quiet w (touched old (step.Open s ∷ []) ++ owed) ≡ true) (sym made) (all_open old s (touched old (step.Open s ∷ []) ++ owed) all),
         none,
       );
+      turn = refl;
+      once = λ h. rw none refl;
     }
 
 pub opens_none : (s : ℕ) (x : Input) (r : Result Unit Stopped) → x ≡ input.Open s → IfErr r (λ e. e.done ≡ false) → OpensNone x r

@@ -12,10 +12,13 @@ use Rattle.jsp_model.specs.Limits.{IsWithinLimits}
 use Rattle.jsp_model.specs.Sight.{available}
 use Rattle.jsp_model.specs.Quiet.{must_wait, is_quiet}
 use Rattle.jsp_model.specs.Steps.{is_legal}
-use Rattle.jsp_model.specs.House.{is_unasked}
-use Rattle.jsp_laws.proofs.Lists.{each_has, found_has}
+use Rattle.jsp_model.specs.Lookup.{registration_of}
+use Rattle.jsp_model.specs.House.{is_unasked, all_must_wait, comes_in_turn}
+use Rattle.std.specs.Prelude.{Option}
+use Rattle.std.specs.Option.{option_map_or}
+use Rattle.jsp_laws.proofs.Lists.{Has, each_has, found_has}
 use Rattle.jsp_quiet.specs.Quieting.{quiets}
-use Rattle.jsp_quiet.proofs.Progress.{can_grant, can_empty, can_tell}
+use Rattle.jsp_quiet.proofs.Progress.{can_grant, can_empty, can_tell, find_only}
 use Rattle.jsp_rows.proofs.Places.{find_none, all_has, limits_rising, limits_some}
 
 -- a step that quiets a space is asked for by nobody
@@ -85,3 +88,17 @@ nothing_left st p waits owes =
     and_from (list_all (λ b. not (b.space == p) || must_wait st b) st.blocked) (list_all (λ r. not (r.space == p) || length r.owed == 0) st.registrations)
     (none_left (λ (b : Blocked). b.space == p) (must_wait st) st.blocked waits)
     (none_left (λ (r : Registration). r.space == p) (λ (r : Registration). length r.owed == 0) st.registrations owes)
+
+-- ---- events come last
+
+registration_found : (st : State) (r : Registration) → IsWithinLimits st → Has st.registrations r → registration_of st r.number ≡ Some r
+registration_found st r h there = find_only (λ (q : Registration). q.number) st.registrations r (limits_rising st h).registrations there
+
+pub tells_in_turn : (st : State) (p : ℕ) (r : Registration) (owed : List ℕ) → IsWithinLimits st → find (released st p) st.blocked ≡ None → find (is_owed p) st.registrations ≡ Some r → comes_in_turn st owed (step.Tell r.number) ≡ true
+unfolding all_must_wait
+tells_in_turn st p r owed h waits found =
+    let k = found_has (is_owed p) st.registrations r found in
+    let here : r.space ≡ p = eqb-true r.space p (and_parts (r.space == p) (not (length r.owed == 0)) k.1).0 in
+    ap (λ (o : Option Registration). option_map_or (λ (q : Registration). all_must_wait st q.space) o true) (registration_found st r h k.0)
+    ∙ ap (all_must_wait st) here
+    ∙ none_left (λ (b : Blocked). b.space == p) (must_wait st) st.blocked waits

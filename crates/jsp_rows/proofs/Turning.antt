@@ -126,7 +126,7 @@ own_turn old s true e = rw e (ap (λ (w : Step). w ∷ []) (settle_bare old s e)
 own_turn old s false e = refl
 
 pub turned : (old new : State) (owed left : List ℕ) (before after : List Step) (s : Step) → settle_step old ≡ Some s → Performs old new owed left before after s (Ok tt) → Settles old new owed left before after (Ok (answer_to s))
-turned old new owed left before after s e p = record { steps = p.steps; makes = p.makes; own = p.own ∙ own_turn old s true e; leaves = p.leaves; answers = settle_answers old new s e }
+turned old new owed left before after s e p = record { steps = p.steps; makes = p.makes; own = p.own ∙ own_turn old s true e; leaves = p.leaves; turn = p.turn; once = p.once; answers = settle_answers old new s e }
 
 pub turn_stopped : (old new : State) (owed left : List ℕ) (before after : List Step) (s : Step) (e : Stopped) → settle_step old ≡ Some s → Performs old new owed left before after s (Err e) → Settles old new owed left before after (Err e)
-turn_stopped old new owed left before after s e is p = record { steps = p.steps; makes = p.makes; own = p.own ∙ own_turn old s e.done is; leaves = p.leaves; answers = λ full none. absurd (cc (rw is at none)) }
+turn_stopped old new owed left before after s e is p = record { steps = p.steps; makes = p.makes; own = p.own ∙ own_turn old s e.done is; leaves = p.leaves; turn = p.turn; once = p.once; answers = λ full none. absurd (cc (rw is at none)) }

@@ -1,5 +1,5 @@
 -- What the parts of a call promise of the log and of the step that was asked for.
-use Rattle.std.specs.Prelude.{◌≡◌, ℕ, Bool, true, false, if◌then◌else◌, ◌&&◌, nat_lt, nat_le, List, [], ◌∷◌, ◌++◌, Option, Result, is_none}
+use Rattle.std.specs.Prelude.{◌≡◌, ℕ, Bool, true, false, if◌then◌else◌, ◌&&◌, nat_lt, nat_le, List, [], ◌∷◌, ◌++◌, Option, Result, is_none, IsTrue}
 use Rattle.std.specs.List.{list_any, list_all}
 use Rattle.std.specs.Option.{option_map_or}
 use Rattle.jsp_model.specs.declared.state.State.{State}
@@ -11,15 +11,16 @@ use Rattle.jsp_model.specs.Steps.{is_fault, is_vote_to_abort, is_vote_to_commit,
 use Rattle.jsp_model.specs.Refusals.{refusal}
 use Rattle.jsp_model.specs.Requests.{rows_asked}
 use Rattle.jsp_model.specs.Touches.{touches}
-use Rattle.jsp_model.specs.House.{Covers, Makes, Leaves, KeepsRoom, IsWithin, own_of, bare, is_unasked, touched, was_done}
+use Rattle.jsp_model.specs.House.{Covers, OwesOnce, come_in_turn, Makes, Leaves, KeepsRoom, IsWithin, is_full, own_of, bare, is_unasked, touched, was_done}
 use Rattle.jsp_model.specs.declared.limits.TheConstants.{LAST_SESSION}
 
 -- ---- the log
 
--- the log keeps its room, and stays within its bound
+-- the log keeps its room, and stays within its bound; a full log stays as it is
 pub record KeepsLog (old new : State) (bound : Option ℕ) (before after spare left : ℕ) : Type 0 where
   pub room : KeepsRoom old new spare left
   pub within : IsWithin bound before → IsWithin bound after
+  pub full : is_full bound before ≡ true → after ≡ before
 
 -- ---- a step that is asked for
 
@@ -49,6 +50,8 @@ pub record Performs (old new : State) (owed left : List ℕ) (before after : Lis
   pub makes : Makes old new before after steps
   pub own : own_of steps ≡ if_done x result
   pub leaves : Leaves result new (touched old steps ++ owed) left
+  pub turn : IsTrue (come_in_turn old owed steps)
+  pub once : OwesOnce owed left
 
 -- the step was made, with the rows that it gives, and is owed to what it touches
 pub record MakesOwn (old new : State) (owed left : List ℕ) (before after : List Step) (x : Step) : Type 0 where
@@ -57,3 +60,4 @@ pub record MakesOwn (old new : State) (owed left : List ℕ) (before after : Lis
   pub asked : is_unasked made ≡ false
   pub makes : Makes old new before after (made ∷ [])
   pub covers : Covers left (touches old made ++ owed)
+  pub once : OwesOnce owed left

@@ -1,6 +1,7 @@
 //! What an act does.
 ghost use Rattle.std.specs.Prelude.{◌≡◌, ◌-◌, ◌^◌, ◌&&◌, nat_le, nat_lt, true, false, None, OnOk, IfErr, IsTrue, vec_len, vec_capacity};
 ghost use Rattle.jsp_model.specs.declared.house.Input.TheVariants as input;
+ghost use Rattle.jsp_model.specs.declared.house.Why.TheVariants as why;
 ghost use Rattle.jsp_model.specs.House.{Acts, Goes, IsReady, MayStop, WasFull, OpensNone, is_input, accepts as takes, acted, step_of as own_step};
 ghost use Rattle.jsp_rows.specs.Making.{KeepsLog};
 ghost use Rattle.jsp_rows.specs.Owing.{IsDone};
@@ -8,7 +9,7 @@ ghost use Rattle.jsp_model.specs.declared.limits.TheConstants.{LAST_SESSION};
 
 use crate::finishing::finish;
 use crate::making::make;
-use crate::performing::{clear, perform};
+use crate::performing::{clear, perform, perform_ready};
 use jsp_audit::is_open;
 use jsp_core::LiveImage;
 use jsp_model::{Input, LAST_SESSION, Step, Stopped, Why};
@@ -26,6 +27,7 @@ pub(crate) fn act(
 ) -> Result<(), Stopped>
     requires { IsTrue (is_input input) }
     ensures acts { Acts image.old image.new debt.old.items debt.new.items log.old.items log.new.items input result }
+    ensures passed_over { takes image.old input ≡ false → IfErr result (λ e. e.done ≡ false) }
     ensures opens { OpensNone input result }
     ensures ready { IsReady image.old debt.old.items input → WasFull bound (vec_len log.old) result }
     ensures keeps { KeepsLog image.old image.new bound (vec_len log.old) (vec_len log.new) (vec_capacity log.old - vec_len log.old) (vec_capacity log.new - vec_len log.new) }
@@ -40,6 +42,34 @@ pub(crate) fn act(
     perform(alloc, image, debt, step_of(alloc, input), bound, log)
 }
 
+/// The same of a house that was made ready for the input.
+pub(crate) fn act_ready(
+    alloc: Global,
+    image: &mut LiveImage,
+    debt: &mut Vec<u64>,
+    input: Input,
+    bound: Option<u64>,
+    log: &mut Vec<Step>,
+) -> Result<(), Stopped>
+    requires input { IsTrue (is_input input) }
+    requires ready { IsReady image.old debt.old.items input }
+    ensures acts { Acts image.old image.new debt.old.items debt.new.items log.old.items log.new.items input result }
+    ensures passed_over { takes image.old input ≡ false → IfErr result (λ e. e.done ≡ false) }
+    ensures opens { OpensNone input result }
+    ensures full { WasFull bound (vec_len log.old) result }
+    ensures keeps { KeepsLog image.old image.new bound (vec_len log.old) (vec_len log.new) (vec_capacity log.old - vec_len log.old) (vec_capacity log.new - vec_len log.new) }
+    ensures why { IfErr result (λ e. MayStop bound (vec_len log.new) e.why) }
+{
+    if !accepts(image, &input) {
+        debt.clear();
+        return Ok(());
+    }
+    if let Input::Open { session } = input {
+        return open_ready(alloc, image, debt, session, bound, log);
+    }
+    perform_ready(alloc, image, debt, step_of(alloc, input), bound, log)
+}
+
 /// Makes what an earlier call left, what is due, and what the spaces owe that the input touches. All that
 /// was touched stays owed.
 pub(crate) fn make_ready(
@@ -52,6 +82,7 @@ pub(crate) fn make_ready(
 ) -> Result<(), Why>
     ensures goes { Goes image.old image.new debt.old.items debt.new.items log.old.items log.new.items }
     ensures ready { OnOk result (IsReady image.new debt.new.items input.now) }
+    ensures idle { IsReady image.old debt.old.items input.now → (vec_len log.new ≡ vec_len log.old) × IfErr result (λ w. w ≡ why.NoMemory) }
     ensures keeps { KeepsLog image.old image.new bound (vec_len log.old) (vec_len log.new) (vec_capacity log.old - vec_len log.old) (vec_capacity log.new - vec_len log.new) }
     ensures why { IfErr result (λ w. MayStop bound (vec_len log.new) w) }
 {
@@ -102,8 +133,8 @@ fn step_of(alloc: Global, input: Input) -> Step
     }
 }
 
-/// Opens a session. That touches nothing and makes nothing due, so no call that is stopped has
-/// opened one.
+/// Finishes what an earlier call left, and opens a session. That touches nothing and makes nothing due, so no call that
+/// is stopped has opened one.
 fn open(
     alloc: Global,
     image: &mut LiveImage,
@@ -122,6 +153,26 @@ fn open(
     if let Err(why) = finish::<Step>(alloc, image, debt, None, bound, log) {
         return Err(Stopped { why, done: false });
     }
+    open_ready(alloc, image, debt, session, bound, log)
+}
+
+/// The same where nothing is left and nothing is due.
+fn open_ready(
+    alloc: Global,
+    image: &mut LiveImage,
+    debt: &mut Vec<u64>,
+    session: u64,
+    bound: Option<u64>,
+    log: &mut Vec<Step>,
+) -> Result<(), Stopped>
+    requires accepted { takes image.old (input.Open session) ≡ true }
+    requires done { IsDone image.old debt.old.items None }
+    ensures acts { Acts image.old image.new debt.old.items debt.new.items log.old.items log.new.items (input.Open session) result }
+    ensures not_done { IfErr result (λ e. e.done ≡ false) }
+    ensures full { WasFull bound (vec_len log.old) result }
+    ensures keeps { KeepsLog image.old image.new bound (vec_len log.old) (vec_len log.new) (vec_capacity log.old - vec_len log.old) (vec_capacity log.new - vec_len log.new) }
+    ensures why { IfErr result (λ e. MayStop bound (vec_len log.new) e.why) }
+{
     match make(alloc, image, Step::Open { session }, None, bound, log) {
         Err(why) => Err(Stopped { why, done: false }),
         Ok(()) => {

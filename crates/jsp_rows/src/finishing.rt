@@ -1,7 +1,7 @@
 //! The steps that nobody has to ask for, also before what is to come.
-ghost use Rattle.std.specs.Prelude.{◌≡◌, ◌-◌, ◌++◌, ◌∷◌, [], OnOk, OnErr, Some, IfOk, IfErr, IfSome, IfNone, IsTrue, IsFalse, option_copied, option_map, vec_len, vec_capacity};
+ghost use Rattle.std.specs.Prelude.{◌≡◌, ℕ, List, ◌-◌, ◌++◌, ◌∷◌, [], OnOk, OnErr, Some, IfOk, IfErr, IfSome, IfNone, IsTrue, IsFalse, option_copied, option_map, vec_len, vec_capacity};
 ghost use Rattle.jsp_model.specs.declared.house.Why.TheVariants as why;
-ghost use Rattle.jsp_model.specs.House.{Covers, Goes, MayStop, is_unasked};
+ghost use Rattle.jsp_model.specs.House.{Covers, OwesOnce, Goes, MayStop, comes_in_turn, is_unasked};
 ghost use Rattle.jsp_model.specs.Due.{due as due_now};
 ghost use Rattle.jsp_model.specs.Quiet.{are_quiet};
 ghost use Rattle.jsp_model.specs.Touches.{touches as touched_by};
@@ -64,6 +64,7 @@ pub(crate) fn make_owing(
     ensures log { OnOk result (log.new.items ≡ log.old.items ++ step ∷ []) }
     ensures owes { OnOk result (Covers debt.new.items (touched_by image.old step)) }
     ensures stays { Covers debt.new.items debt.old.items }
+    ensures once { OwesOnce debt.old.items debt.new.items }
     ensures err { OnErr result ((image.new ≡ image.old) × (log.new.items ≡ log.old.items)) }
     ensures keeps { KeepsLog image.old image.new bound (vec_len log.old) (vec_len log.new) (vec_capacity log.old - vec_len log.old) (vec_capacity log.new - vec_len log.new) }
     ensures why { IfErr result (λ w. MayStop bound (vec_len log.new) w) }
@@ -84,6 +85,7 @@ fn next_step<T: Coming>(
 ) -> Result<Option<Step>, NoMemory>
     ensures legal { IfOk result (λ o. IfSome o (λ s. IsTrue (is_legal image.now s))) }
     ensures unasked { IfOk result (λ o. IfSome o (λ s. IsTrue (is_unasked s))) }
+    ensures turn { IfOk result (λ o. IfSome o (λ s. IsTrue (comes_in_turn image.now debt.now s))) }
     ensures some { IfOk result (λ o. IfSome o (λ s. IsDone image.now debt.now (option_map T.step (option_copied to_come.entry)) → ⊥)) }
     ensures none { IfOk result (λ o. IfNone o (IsDone image.now debt.now (option_map T.step (option_copied to_come.entry)))) }
 {
@@ -104,6 +106,7 @@ fn next_step<T: Coming>(
 fn ending(alloc: Global, image: &LiveImage, item: Item) -> Result<Step, NoMemory>
     requires { due_now image.now ≡ Some item }
     ensures legal { IfOk result (λ s. IsTrue (is_legal image.now s)) }
+    ensures turn { IfOk result (λ s. (owed : List ℕ) → IsTrue (are_quiet image.now owed) → IsTrue (comes_in_turn image.now owed s)) }
     ensures unasked { IfOk result (λ s. IsTrue (is_unasked s)) }
 {
     let end = Step::Due { item };
@@ -121,6 +124,7 @@ fn quieting_for<T: Coming>(
 ) -> Result<Option<Step>, NoMemory>
     ensures legal { IfOk result (λ o. IfSome o (λ s. IsTrue (is_legal image.now s))) }
     ensures quiets { IfOk result (λ o. IfSome o (λ s. IsTrue (quiets s))) }
+    ensures turn { IfOk result (λ o. IfSome o (λ s. (owed : List ℕ) → IsTrue (comes_in_turn image.now owed s))) }
     ensures some { IfOk result (λ o. IfSome o (λ s. IsFalse (are_quiet image.now (touched_by image.now (T.step coming.now))))) }
     ensures none { IfOk result (λ o. IfNone o (IsTrue (are_quiet image.now (touched_by image.now (T.step coming.now))))) }
 {
@@ -132,6 +136,7 @@ fn quieting_for<T: Coming>(
 fn quieting_of(alloc: Global, image: &LiveImage, spaces: &[u64]) -> Result<Option<Step>, NoMemory>
     ensures legal { IfOk result (λ o. IfSome o (λ s. IsTrue (is_legal image.now s))) }
     ensures quiets { IfOk result (λ o. IfSome o (λ s. IsTrue (quiets s))) }
+    ensures turn { IfOk result (λ o. IfSome o (λ s. (owed : List ℕ) → IsTrue (comes_in_turn image.now owed s))) }
     ensures some { IfOk result (λ o. IfSome o (λ s. IsFalse (are_quiet image.now spaces.now))) }
     ensures none { IfOk result (λ o. IfNone o (IsTrue (are_quiet image.now spaces.now))) }
 {

@@ -1,7 +1,7 @@
 //! A step that was asked for, with all that goes before it and follows from it.
 ghost use Rattle.std.specs.Prelude.{◌≡◌, ◌≤◌, ◌^◌, ◌-◌, ◌++◌, ◌∷◌, [], true, false, None, Some, OnOk, OnErr, IfOk, IfErr, IsTrue, vec_len, vec_capacity};
 ghost use Rattle.jsp_model.specs.declared.house.Why.TheVariants as why;
-ghost use Rattle.jsp_model.specs.House.{Covers, MayStop, WasFull, Finishes, bare, is_unasked};
+ghost use Rattle.jsp_model.specs.House.{Covers, OwesOnce, MayStop, WasFull, Finishes, bare, is_unasked};
 ghost use Rattle.jsp_model.specs.Limits.{IsWithinLimits};
 ghost use Rattle.jsp_model.specs.Touches.{touches as touched_by};
 ghost use Rattle.jsp_model.specs.Steps.{next};
@@ -44,6 +44,25 @@ pub(crate) fn perform(
     if let Err(why) = finish(alloc, image, debt, Some(&step), bound, log) {
         return Err(Stopped { why, done: false });
     }
+    perform_ready(alloc, image, debt, step, bound, log)
+}
+
+/// The same where nothing is due and all that the step touches, and all that is owed, is quiet.
+pub(crate) fn perform_ready(
+    alloc: Global,
+    image: &mut LiveImage,
+    debt: &mut Vec<u64>,
+    step: Step,
+    bound: Option<u64>,
+    log: &mut Vec<Step>,
+) -> Result<(), Stopped>
+    requires may_come { IsTrue (may_come image.old step) }
+    requires done { IsDone image.old debt.old.items (Some step) }
+    ensures performs { Performs image.old image.new debt.old.items debt.new.items log.old.items log.new.items step result }
+    ensures full { WasFull bound (vec_len log.old) result }
+    ensures keeps { KeepsLog image.old image.new bound (vec_len log.old) (vec_len log.new) (vec_capacity log.old - vec_len log.old) (vec_capacity log.new - vec_len log.new) }
+    ensures why { IfErr result (λ e. MayStop bound (vec_len log.new) e.why) }
+{
     match make_own(alloc, image, debt, step, bound, log) {
         Err(why) => Err(Stopped { why, done: false }),
         Ok(()) => clear(alloc, image, debt, true, bound, log),
@@ -63,6 +82,7 @@ fn make_own(
     requires done { IsDone image.old debt.old.items (Some step) }
     ensures made { OnOk result (MakesOwn image.old image.new debt.old.items debt.new.items log.old.items log.new.items step) }
     ensures stays { Covers debt.new.items debt.old.items }
+    ensures once { OwesOnce debt.old.items debt.new.items }
     ensures err { OnErr result ((image.new ≡ image.old) × (log.new.items ≡ log.old.items)) }
     ensures keeps { KeepsLog image.old image.new bound (vec_len log.old) (vec_len log.new) (vec_capacity log.old - vec_len log.old) (vec_capacity log.new - vec_len log.new) }
     ensures why { IfErr result (λ w. MayStop bound (vec_len log.new) w) }

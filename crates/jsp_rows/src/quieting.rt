@@ -1,7 +1,8 @@
 //! What a space that isn't quiet owes next.
-ghost use Rattle.std.specs.Prelude.{◌≡◌, ◌==◌, ◌&&◌, not, length, find, option_copied, IfOk, IfSome, IfNone, IsTrue};
+ghost use Rattle.std.specs.Prelude.{◌≡◌, ℕ, List, ◌==◌, ◌&&◌, not, length, find, option_copied, IfOk, IfSome, IfNone, IsTrue};
 ghost use Rattle.jsp_model.specs.Quiet.{is_quiet};
 ghost use Rattle.jsp_model.specs.Steps.{is_legal};
+ghost use Rattle.jsp_model.specs.House.{comes_in_turn};
 ghost use Rattle.jsp_quiet.specs.Quieting.{quiets};
 
 use jsp_audit::choose;
@@ -22,6 +23,7 @@ pub(crate) fn quieting_step(
 ) -> Result<Option<Step>, NoMemory>
     ensures legal { IfOk result (λ o. IfSome o (λ s. IsTrue (is_legal image.now s))) }
     ensures quiets { IfOk result (λ o. IfSome o (λ s. IsTrue (quiets s))) }
+    ensures turn { IfOk result (λ o. IfSome o (λ s. (owed : List ℕ) → IsTrue (comes_in_turn image.now owed s))) }
     ensures none { IfOk result (λ o. IfNone o (IsTrue (is_quiet image.now space))) }
 {
     let state = image.state();

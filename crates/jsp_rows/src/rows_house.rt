@@ -4,7 +4,7 @@ ghost use Rattle.jsp_model.specs.Lookup.{empty};
 ghost use Rattle.jsp_quiet.specs.Steady.{IsSteady};
 ghost use Rattle.jsp_quiet.specs.Props.{IsSteady-prop};
 
-use crate::acting::{act, make_ready};
+use crate::acting::{act, act_ready, make_ready};
 use crate::answering::{answer, close, next_waiting};
 use crate::backlog::Backlog;
 use crate::performing::clear;
@@ -74,6 +74,17 @@ impl House for RowsHouse {
 
     fn act(&mut self, input: Input, log: &mut Vec<Step>) -> Result<(), Stopped> {
         act(
+            self.alloc,
+            &mut self.image,
+            &mut self.debt,
+            input,
+            self.bound,
+            log,
+        )
+    }
+
+    fn act_ready(&mut self, input: Input, log: &mut Vec<Step>) -> Result<(), Stopped> {
+        act_ready(
             self.alloc,
             &mut self.image,
             &mut self.debt,

@@ -1,5 +1,5 @@
 //! What a settle turn does.
-ghost use Rattle.std.specs.Prelude.{◌≡◌, ◌-◌, None, Some, IfErr, option_copied, find, is_none, vec_len, vec_capacity};
+ghost use Rattle.std.specs.Prelude.{◌≡◌, ◌-◌, None, Some, false, IfErr, option_copied, find, is_none, vec_len, vec_capacity};
 ghost use Rattle.std.specs.List.{list_any};
 ghost use Rattle.jsp_model.specs.House.{MayStop, Settles, answer_to, next_turn as answers_next};
 ghost use Rattle.jsp_model.specs.Settling.{settle_step as next_turn, turn_of as turn, turn_at, first_unquiet as first_of_all};
@@ -27,6 +27,7 @@ pub(crate) fn settle(
 ) -> Result<Settled, Stopped>
     requires { IsSteady image.old }
     ensures settles { Settles image.old image.new debt.old.items debt.new.items log.old.items log.new.items result }
+    ensures unasked { next_turn image.old ≡ None → IfErr result (λ e. e.done ≡ false) }
     ensures keeps { KeepsLog image.old image.new bound (vec_len log.old) (vec_len log.new) (vec_capacity log.old - vec_len log.old) (vec_capacity log.new - vec_len log.new) }
     ensures why { IfErr result (λ e. MayStop bound (vec_len log.new) e.why) }
 {
@@ -78,6 +79,7 @@ fn quiet_next(
     requires steady { IsSteady image.old }
     requires none { next_turn image.old ≡ None }
     ensures settles { Settles image.old image.new debt.old.items debt.new.items log.old.items log.new.items result }
+    ensures not_done { IfErr result (λ e. e.done ≡ false) }
     ensures keeps { KeepsLog image.old image.new bound (vec_len log.old) (vec_len log.new) (vec_capacity log.old - vec_len log.old) (vec_capacity log.new - vec_len log.new) }
     ensures why { IfErr result (λ e. MayStop bound (vec_len log.new) e.why) }
 {
@@ -102,6 +104,7 @@ fn quiet_space(
     requires none { next_turn image.old ≡ None }
     requires found { first_of_all image.old ≡ Some space }
     ensures settles { Settles image.old image.new debt.old.items debt.new.items log.old.items log.new.items result }
+    ensures not_done { IfErr result (λ e. e.done ≡ false) }
     ensures keeps { KeepsLog image.old image.new bound (vec_len log.old) (vec_len log.new) (vec_capacity log.old - vec_len log.old) (vec_capacity log.new - vec_len log.new) }
     ensures why { IfErr result (λ e. MayStop bound (vec_len log.new) e.why) }
 {

@@ -13,6 +13,7 @@ use jsp_core::{Core, LiveImage};
 use jsp_model::{Blocked, Row};
 use jsp_sight::is_available;
 use jsp_table::Test;
+use jsp_types::Classes;
 use jsp_wait::Offer;
 
 /// The first request of the space that can be given a row.
@@ -72,6 +73,11 @@ impl<'a> Offer for RowsOf<'a> {
     ghost is_taker = { λ o n b. takes_it o.state.now n b };
 
     ghost is_freed = { λ o b. not (held_up o.state.now b) };
+
+    fn classes(&self) -> &Classes {
+        let state = self.state;
+        &state.classes
+    }
 
     fn row(&self, number: u64) -> Option<&Row> {
         row_of(self.state, number)

@@ -224,16 +224,6 @@ impl Rows {
         }
     }
 
-    /// No fewer than the rows that a space has, found without looking at any.
-    pub fn at_most_in(&self, space: u64) -> usize
-        ensures { length (filter (λ r. r.space == space) self.now) ≤ result }
-    {
-        match &self.kept {
-            Kept::Scanned(rows) => rows.at_most_in(space),
-            Kept::Hinted(rows) => rows.at_most_in(space),
-        }
-    }
-
     /// How many rows a space has.
     pub fn count_in(&self, space: u64) -> usize
         ensures { result ≡ length (filter (λ r. r.space == space) self.now) }
@@ -410,7 +400,7 @@ impl Rows {
 fn shows_more(rows: &HintedRows, classes: &Classes, set: &MatchSet, most: usize) -> bool
     ensures { result ≡ nat_lt most (length (filter (shows classes.now set.now) rows.now)) }
 {
-    if rows.at_most_in(set.space) <= most {
+    if rows.count_in(set.space) <= most {
         return false;
     }
     most < rows.count_shown(classes, set, most + 1)

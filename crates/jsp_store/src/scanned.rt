@@ -136,13 +136,6 @@ impl ScannedRows {
         read_one(&mut self.items, below, number, x)
     }
 
-    /// No fewer than the rows that a space has: those of all spaces.
-    pub fn at_most_in(&self, _space: u64) -> usize
-        ensures { length (filter (λ r. r.space == _space) self.now) ≤ result }
-    {
-        self.items.len()
-    }
-
     /// The row of this number.
     pub fn get(&self, number: u64) -> Option<&Row>
         ensures { option_copied result ≡ find (λ r. r.number == number) self.now }

@@ -1,4 +1,5 @@
 pub mod Rising
+pub mod Next
 pub mod Standing
 pub mod Finding
 pub mod Changing

@@ -1,5 +1,5 @@
 -- Numbers in rising order, one more and one less.
-use Rattle.std.proofs.Common.{◌≡◌, ◌≢◌, ℕ, zero, suc, ◌+◌, ◌-◌, ◌<◌, ◌≤◌, Bool, true, false, ◌||◌, eqb, List, [], ◌∷◌, length, Ok, Err, inl, inr, ◌⊎◌, refl, ap, sym, ◌∙◌, arith}
+use Rattle.std.proofs.Common.{◌≡◌, ◌≢◌, ℕ, zero, suc, ◌+◌, ◌-◌, ◌<◌, ◌≤◌, Bool, true, false, ◌||◌, eqb, List, [], ◌∷◌, length, Ok, Err, inl, inr, ◌⊎◌, refl, ap, sym, ◌∙◌, subst, arith}
 use Rattle.std.specs.Prelude.{slice_index}
 use Rattle.std.specs.List.{insert, remove}
 use Rattle.std.proofs.lemmas.Bool.{cases_eq, cases_lt, eq-eqb, ne_eqb}
@@ -111,3 +111,12 @@ remove_increasing xs p in_range up i j less lt =
     ] where
       both : {a b c d : ℕ} → a ≡ b → c ≡ d → b < d → a < c
       both e f h = omega arith
+
+-- ---- where a slice of the same numbers was searched
+
+pub found_by : (xs ys : List ℕ) (n i : ℕ) → AreIncreasing xs → ys ≡ xs → IsBinarySearchResult (λ y. nat_cmp y n) ys (Ok i) → (i < length xs) × (slice_index xs i ≡ n)
+found_by xs ys n i up same h = found_there xs n i up (subst (λ (w : List ℕ). IsBinarySearchResult (λ y. nat_cmp y n) w (Ok i)) same h)
+
+pub inserted : (xs ys : List ℕ) (n i : ℕ) → AreIncreasing xs → ys ≡ xs → IsBinarySearchResult (λ y. nat_cmp y n) ys (Err i) → i ≤ length ys → AreIncreasing (insert xs i n)
+inserted xs ys n i up same h le =
+    insert_increasing xs i n up (found_between xs n i up (subst (λ (w : List ℕ). IsBinarySearchResult (λ y. nat_cmp y n) w (Err i)) same h) (subst (λ (w : List ℕ). i ≤ length w) same le))

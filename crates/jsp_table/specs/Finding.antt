@@ -1,5 +1,5 @@
 -- Things by number, and the first that passes a test.
-use Rattle.std.specs.Prelude.{◌≡◌, ℕ, ◌<◌, Bool, true, false, not, ◌==◌, ◌&&◌, nat_lt, List, [], ◌∷◌, filter, find, Option}
+use Rattle.std.specs.Prelude.{◌≡◌, ℕ, ◌<◌, Bool, true, not, ◌==◌, ◌&&◌, nat_lt, List, [], ◌∷◌, filter, find, Option}
 use Rattle.std.specs.List.{AllByRecursion}
 use Rattle.jsp_table.specs.Numbers.{contains}
 
@@ -22,7 +22,3 @@ module _ {T : Type 0} (num : T → ℕ) where
   -- each that passes the test is named
   abbrev pub AreNamed : (T → Bool) → List ℕ → List T → Type 0
   AreNamed test ns xs = AllByRecursion (λ x. test x ≡ true → contains ns (num x) ≡ true) xs
-
-  -- none of those that are named passes the test
-  abbrev pub AreMissed : (T → Bool) → List ℕ → List T → Type 0
-  AreMissed test ns xs = AllByRecursion (λ x. contains ns (num x) ≡ true → test x ≡ false) xs

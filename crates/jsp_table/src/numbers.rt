@@ -1,27 +1,45 @@
 //! Numbers in rising order.
-ghost use Rattle.std.specs.Prelude.{◌≡◌, ◌≢◌, ◌==◌, ◌<◌, ◌≤◌, ℕ, true, [], length, slice_index, IfOk, OnOk};
+ghost use Rattle.std.specs.Prelude.{◌≡◌, ◌≢◌, ◌==◌, ℕ, true, [], length, find, nat_lt, IfOk, OnOk};
 ghost use Rattle.jsp_table.specs.Numbers.{contains, AreIncreasing};
+ghost use Rattle.jsp_table.specs.Kept.{numbers_in};
 
 use crate::NoMemory;
+use crate::few::{add_to_few, next_of_few, remove_from_few};
+use crate::many::{add_to_many, many_of, next_of_many, remove_from_many};
 use std::alloc::Global;
-use std::collections::VecDeque;
+use std::collections::BTreeSet;
 use std::marker::Model;
 
+/// How many numbers stand next to one another at most.
+const MOST_FEW: usize = 256;
+
 /// Numbers in rising order, each once. Contracts see the list of them.
+///
+/// Most lists are short, so a few numbers stand next to one another. Once there are more, they are a
+/// tree, so that one in the middle of very many goes as quickly as the first. What was a tree stays one.
 #[derive(Drop)]
 pub struct Numbers {
-    numbers: VecDeque<u64>,
+    alloc: Global,
+    kept: Kept,
+}
+
+/// How numbers are kept.
+#[derive(Drop)]
+pub(crate) enum Kept {
+    Few(Vec<u64>),
+    Many(BTreeSet<u64>),
 }
 
 impl Model for Numbers {
     ghost use Rattle.std.specs.Prelude.{List, ℕ};
     ghost use Rattle.jsp_table.specs.Numbers.{AreIncreasing};
+    ghost use Rattle.jsp_table.specs.Kept.{numbers_in};
 
     ghost Value = { List ℕ };
 
-    ghost view = { λ a. a.numbers.items };
+    ghost view = { λ a. numbers_in a.kept };
 
-    ghost invariant = { λ a. AreIncreasing a.numbers.items };
+    ghost invariant = { λ a. AreIncreasing (numbers_in a.kept) };
 }
 
 impl Numbers {
@@ -30,7 +48,8 @@ impl Numbers {
         ensures { result ≡ [] }
     {
         Numbers {
-            numbers: VecDeque::new(alloc),
+            alloc,
+            kept: Kept::Few(Vec::new(alloc)),
         }
     }
 
@@ -39,41 +58,38 @@ impl Numbers {
         ensures len { result ≡ length self.now }
         ensures increasing { AreIncreasing self.now }
     {
-        self.numbers.len()
+        match &self.kept {
+            Kept::Few(numbers) => numbers.len(),
+            Kept::Many(numbers) => numbers.len(),
+        }
     }
 
     /// Whether there is none.
     pub fn is_empty(&self) -> bool
         ensures { result ≡ (length self.now == 0) }
     {
-        self.numbers.is_empty()
-    }
-
-    /// The number at a place.
-    pub fn at(&self, place: usize) -> u64
-        requires { place < length self.now }
-        ensures { result ≡ slice_index self.now place }
-    {
-        self.numbers[place]
+        self.len() == 0
     }
 
     /// A copy of them.
     pub fn to_vec(&self, alloc: Global) -> Result<Vec<u64>, NoMemory>
         ensures { IfOk result (λ v. v.items ≡ self.now) }
     {
-        let copies = self.numbers.iter().copied().collect(alloc)?;
+        let copies = match &self.kept {
+            Kept::Few(numbers) => numbers.iter().copied().collect(alloc)?,
+            Kept::Many(numbers) => numbers.iter().copied().collect(alloc)?,
+        };
         Ok(copies)
     }
 
-    /// The place of the first number above this one, or the length where there is none.
-    pub fn place_above(&self, number: u64) -> usize
-        ensures within { result ≤ length self.now }
-        ensures before { (k : ℕ) → k < result → slice_index self.now k ≤ number }
-        ensures beyond { (k : ℕ) → result ≤ k → k < length self.now → number < slice_index self.now k }
+    /// The least number above this one.
+    pub fn next_above(&self, number: u64) -> Option<u64>
+        ensures next { result ≡ find (nat_lt number) self.now }
+        ensures increasing { AreIncreasing self.now }
     {
-        match self.numbers.binary_search(&number) {
-            Ok(place) => place + 1,
-            Err(place) => place,
+        match &self.kept {
+            Kept::Few(numbers) => next_of_few(numbers, number),
+            Kept::Many(numbers) => next_of_many(numbers, number),
         }
     }
 
@@ -82,18 +98,45 @@ impl Numbers {
         ensures ok { OnOk result (contains self.new number ≡ true) }
         ensures keeps { (m : ℕ) → contains self.old m ≡ true → contains self.new m ≡ true }
     {
-        if let Err(place) = self.numbers.binary_search(&number) {
-            self.numbers.insert(place, number)?;
-        }
-        Ok(())
+        make_way(self.alloc, &mut self.kept)?;
+        add_to(&mut self.kept, number)
     }
 
     /// Takes a number out, if it is there. Takes no memory.
     pub fn remove(&mut self, number: u64)
         ensures { (m : ℕ) → m ≢ number → contains self.old m ≡ true → contains self.new m ≡ true }
     {
-        if let Ok(place) = self.numbers.binary_search(&number) {
-            self.numbers.remove(place);
+        match &mut self.kept {
+            Kept::Few(numbers) => remove_from_few(numbers, number),
+            Kept::Many(numbers) => remove_from_many(numbers, number),
         }
+    }
+}
+
+/// Makes a tree of as many numbers as may stand next to one another.
+fn make_way(alloc: Global, kept: &mut Kept) -> Result<(), NoMemory>
+    requires { AreIncreasing (numbers_in kept.old) }
+    ensures increasing { AreIncreasing (numbers_in kept.new) }
+    ensures keeps { (m : ℕ) → contains (numbers_in kept.old) m ≡ true → contains (numbers_in kept.new) m ≡ true }
+{
+    if let Kept::Few(numbers) = kept {
+        if numbers.len() >= MOST_FEW {
+            let many = many_of(alloc, numbers)?;
+            *kept = Kept::Many(many);
+        }
+    }
+    Ok(())
+}
+
+/// Adds a number, if it isn't there.
+fn add_to(kept: &mut Kept, number: u64) -> Result<(), NoMemory>
+    requires { AreIncreasing (numbers_in kept.old) }
+    ensures increasing { AreIncreasing (numbers_in kept.new) }
+    ensures ok { OnOk result (contains (numbers_in kept.new) number ≡ true) }
+    ensures keeps { (m : ℕ) → contains (numbers_in kept.old) m ≡ true → contains (numbers_in kept.new) m ≡ true }
+{
+    match kept {
+        Kept::Few(numbers) => add_to_few(numbers, number),
+        Kept::Many(numbers) => add_to_many(numbers, number),
     }
 }

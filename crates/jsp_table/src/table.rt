@@ -356,12 +356,14 @@ fn first_named<'a, T, N: Numbering<T>, P: Test<T>>(
 ) -> Option<&'a T>
     ensures { option_copied result ≡ find (is_hit N.number_of (P.is_passed test.now) numbers.now after) table.now }
 {
-    'places: for place in numbers.place_above(after)..numbers.len() {
-        if let Some(thing) = table.get(numbers.at(place)) {
+    let mut last = after;
+    'numbers: while let Some(number) = numbers.next_above(last) {
+        if let Some(thing) = table.get(number) {
             if test.passes(thing) {
                 return Some(thing);
             }
         }
+        last = number;
     }
     None
 }

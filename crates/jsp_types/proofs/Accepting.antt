@@ -1,5 +1,6 @@
 -- An entry that isn't bad for the fields of its declared class is accepted.
-use Rattle.std.proofs.Common.{◌≡◌, ℕ, Bool, true, false, not, cond, ◌&&◌, nat_le, List, length, Some, None, IsTrue, refl, sym, ◌∙◌, ap}
+use Rattle.std.proofs.Common.{◌≡◌, ℕ, Bool, true, false, not, cond, ◌&&◌, nat_le, List, length, Option, Some, None, is_some, IsTrue, refl, sym, ◌∙◌, ap}
+use Rattle.std.specs.Prelude.{if◌then◌else◌}
 use Rattle.std.specs.List.{list_all}
 use Rattle.std.proofs.lemmas.Bool.{and_parts, and_from}
 use Rattle.std.proofs.lemmas.List.{length-map}
@@ -8,9 +9,15 @@ use Rattle.jsp_types.specs.declared.value.Kind.{Kind}
 use Rattle.jsp_types.specs.declared.value.Value.{Value}
 use Rattle.jsp_types.specs.declared.class.Class.{Class}
 use Rattle.jsp_types.specs.declared.entry.Raw.{Raw}
+use Rattle.jsp_types.specs.declared.known.Known.{Known}
+use Rattle.jsp_types.specs.Known.{IsKeptOf}
 use Rattle.jsp_types.specs.Classes.{is_declared, are_distinct, fields_of, declared_fields, is_within_limits}
 use Rattle.jsp_types.specs.Matching.{value_at, text_size, entry_of, is_bad, entry_fault, is_small}
 use Rattle.jsp_types.specs.Checking.{is_field_among, filled, is_bad_for, IsAccepted}
+
+-- what is kept of a declared class has its fields
+pub kept_fields : (classes : List Class) (name : List ℕ) (known : Known) → IsKeptOf classes name known → Some known.fields ≡ declared_fields classes name
+kept_fields classes name known h = ap Some h.fields ∙ sym (ap (λ (o : Option Class). if is_some o then Some (fields_of classes name) else None) h.named)
 
 declared_with : (classes : List Class) (name : List ℕ) (fields : List (List ℕ × Kind)) → Some fields ≡ declared_fields classes name → (is_declared classes name ≡ true) × (fields ≡ fields_of classes name)
 declared_with classes name fields same =

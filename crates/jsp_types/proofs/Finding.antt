@@ -45,3 +45,17 @@ known_is_kept known classes name None kept view same =
     rw (← view) (class_named-classes_of known name ∙ ap (option_map (λ k. k.class)) (sym same))
 known_is_kept known classes name (Some k) kept view same =
     rw (← view) (IsKeptOf-known_named known name k.now kept (sym same))
+
+-- what is kept of the class of a name is that of the class so named
+pub kept_name : (classes : List Class) (name : List ℕ) (known : Known) → IsKeptOf classes name known → known.class.name ≡ name
+kept_name classes name known h = go classes h.named
+  where
+    go : (cs : List Class) → class_named cs name ≡ Some known.class → known.class.name ≡ name
+    go [] found = cc
+    go (c ∷ cs) found =
+        let Goal : Bool → Type 0 = λ b. bytes_eq c.name name ≡ b → cond b (Some c) (class_named cs name) ≡ Some known.class → known.class.name ≡ name in
+        let by_cases : (b : Bool) → Goal b = λ b. elim b as Goal [
+          | true ↦ λ same found. let e : c ≡ known.class = cc in ap (λ (k : Class). k.name) (sym e) ∙ (bytes_eq-Decides _ _).0 same
+          | false ↦ λ other found. go cs found
+        ] in
+        by_cases (bytes_eq c.name name) refl found

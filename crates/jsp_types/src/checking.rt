@@ -5,6 +5,7 @@ ghost use Rattle.std.specs.Option.{option_map_or};
 ghost use Rattle.jsp_types.specs.Matching.{text_len, value_at, entry_of, entry_fault, template_of, template_fault, is_small, is_small_template};
 ghost use Rattle.jsp_types.specs.Checking.{is_field_among, filled, is_bad_for, IsAccepted};
 
+use crate::known::Known;
 use crate::matching::find_value;
 use crate::names::are_distinct;
 use crate::{
@@ -102,18 +103,19 @@ fn filled(
     Ok(values)
 }
 
-/// The fields of the entry's class, where the entry isn't refused.
-fn accepting_fields<'a>(classes: &'a Classes, raw: &Raw) -> Result<&'a [(Text, Kind)], EntryFault>
-    ensures ok { IfOk result (λ fields. IsAccepted classes.now raw.now fields.now) }
+/// What is kept of the entry's class, where the entry isn't refused.
+fn accepting<'a>(classes: &'a Classes, raw: &Raw) -> Result<&'a Known, EntryFault>
+    ensures ok { IfOk result (λ known. IsAccepted classes.now raw.now known.now.fields) }
+    ensures name { IfOk result (λ known. known.now.class.name ≡ raw.now.class) }
     ensures err { IfErr result (λ fault. entry_fault classes.now raw.now ≡ Some fault) }
 {
-    let Some(fields) = classes.fields_of(raw.class.as_str()) else {
+    let Some(known) = classes.known(raw.class.as_str()) else {
         return Err(EntryFault::UnknownClass);
     };
-    if is_bad(fields, raw.fields.as_slice()) {
+    if is_bad(known.fields.as_slice(), raw.fields.as_slice()) {
         return Err(EntryFault::BadEntry);
     }
-    Ok(fields)
+    Ok(known)
 }
 
 /// Why an entry is refused, the first fault that applies: its class isn't declared (`UnknownClass`),
@@ -122,7 +124,7 @@ fn accepting_fields<'a>(classes: &'a Classes, raw: &Raw) -> Result<&'a [(Text, K
 pub fn entry_fault(classes: &Classes, raw: &Raw) -> Option<EntryFault>
     ensures { result ≡ entry_fault classes.now raw.now }
 {
-    accepting_fields(classes, raw).err()
+    accepting(classes, raw).err()
 }
 
 /// Why a template is refused, as an entry is. The null template isn't. Takes no memory.
@@ -145,9 +147,10 @@ pub fn check_entry(alloc: Global, classes: &Classes, raw: &Raw) -> Result<Entry,
         (λ error. error
         ≡ option_map_or EntryError.Fault (entry_fault classes.now raw.now) EntryError.NoMemory) }
 {
-    let fields = accepting_fields(classes, raw)?;
-    let class = raw.class.clone()?;
-    let fields = filled(alloc, fields, raw.fields.as_slice())?;
+    let known = accepting(classes, raw)?;
+    // The names as they were declared, whose bytes all entries of the class share.
+    let class = known.class.name.clone()?;
+    let fields = filled(alloc, known.fields.as_slice(), raw.fields.as_slice())?;
     Ok(Entry { class, fields })
 }
 

@@ -1,6 +1,6 @@
 //! The declared classes.
-ghost use Rattle.std.specs.Prelude.{◌≡◌, ◌==◌, [], length, option_copied, MatchOption, IfOk, IfSome, IsTrue, find, bytes_eq};
-ghost use Rattle.jsp_types.specs.Classes.{class_named, is_sub, declared_fields, is_within_limits};
+ghost use Rattle.std.specs.Prelude.{◌≡◌, ◌==◌, if◌then◌else◌, [], length, option_copied, MatchOption, IfOk, IfSome, IsTrue, Some, None, find, bytes_eq};
+ghost use Rattle.jsp_types.specs.Classes.{class_named, is_declared, is_sub, line_of, declared_fields, is_within_limits};
 
 use crate::known::Known;
 use crate::{Items, Kind, NoMemory, Text};
@@ -100,6 +100,17 @@ impl Classes {
                     .iter()
                     .any(|name| ancestor == name.as_str()),
             }
+    }
+
+    /// The class, its parent, its parent's parent and so on, at most 16, or none where it isn't declared. Takes no
+    /// memory.
+    pub fn line_of(&self, class: &str) -> Option<&[Text]>
+        ensures { option_copied result ≡ (if is_declared self.now class.now then Some (line_of self.now class.now) else None) }
+    {
+        match self.known(class) {
+            None => None,
+            Some(known) => Some(known.line.as_slice()),
+        }
     }
 
     /// The class's fields, the inherited first, or none where the class isn't declared. Takes no memory.

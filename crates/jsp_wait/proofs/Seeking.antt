@@ -71,10 +71,10 @@ held_up seed space b freed h =
 
 -- ---- who asks for a row
 
-pub asked_for : (seed : ℕ) (classes : List Class) (b : Blocked) (row : Row) → wanted classes b row ≡ true → is_sought (row_keys seed row) (request_keys seed b) ≡ true
+pub asked_for : (seed : ℕ) (classes : List Class) (b : Blocked) (row : Row) → wanted classes b row ≡ true → is_sought (row_keys seed classes row) (request_keys seed b) ≡ true
 asked_for seed classes b row h =
     let two = and_both (row.space == b.space) (list_any (λ t. matches classes t row.entry) b.templates) h in
-    let sought = row_keys seed row in
+    let sought = row_keys seed classes row in
     let there : is_sought sought (map (template_key seed b.space) b.templates) ≡ true = subst (λ (s : ℕ). is_sought sought (map (template_key seed s) b.templates) ≡ true) (eqb_eq row.space b.space two.0) (among_templates seed row.space classes row.entry b.templates two.1) in
     more_keys sought (session_key seed b.session) (caller_key seed b ∷ under_or seed b ∷ if_or seed b ∷ map (template_key seed b.space) b.templates)
     (more_keys sought (caller_key seed b) (under_or seed b ∷ if_or seed b ∷ map (template_key seed b.space) b.templates)

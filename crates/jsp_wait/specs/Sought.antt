@@ -1,6 +1,7 @@
 -- Under which keys a request that waits is found, and by which keys a row seeks those that ask for it.
 use Rattle.std.specs.Prelude.{ℕ, if◌then◌else◌, List, ◌∷◌, map, is_some}
 use Rattle.std.specs.Option.{option_map_or}
+use Rattle.jsp_types.specs.declared.class.Class.{Class}
 use Rattle.jsp_model.specs.declared.state.Row.{Row}
 use Rattle.jsp_model.specs.declared.state.Blocked.{Blocked}
 use Rattle.jsp_model.specs.Sight.{is_if}
@@ -29,5 +30,5 @@ if_or seed b = if is_if b.form then if_key seed b.space else session_key seed b.
 abbrev pub request_keys : ℕ → Blocked → List ℕ
 request_keys seed b = session_key seed b.session ∷ caller_key seed b ∷ under_or seed b ∷ if_or seed b ∷ map (template_key seed b.space) b.templates
 
-abbrev pub row_keys : ℕ → Row → List ℕ
-row_keys seed row = entry_keys seed row.space row.entry.fields
+abbrev pub row_keys : ℕ → List Class → Row → List ℕ
+row_keys seed classes row = entry_keys seed classes row.space row.entry

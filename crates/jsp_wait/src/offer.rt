@@ -5,6 +5,7 @@ ghost use Rattle.jsp_model.specs.declared.state.Row.{Row as OfRow};
 ghost use Rattle.jsp_model.specs.declared.state.Blocked.{Blocked as OfBlocked};
 
 use jsp_model::{Blocked, Row};
+use jsp_types::Classes;
 
 /// Rows by number, and who may be given one.
 pub trait Offer {
@@ -15,6 +16,10 @@ pub trait Offer {
     ghost is_taker: { Self → ℕ → OfBlocked → Bool };
 
     ghost is_freed: { Self → OfBlocked → Bool };
+
+    /// The declared classes.
+    fn classes(&self) -> &Classes
+        ensures { result.now ≡ classes_of self.now };
 
     /// The row of a number.
     fn row(&self, number: u64) -> Option<&Row>

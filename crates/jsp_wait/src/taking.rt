@@ -7,7 +7,7 @@ ghost use Rattle.jsp_wait.specs.Offered.{AskForIt, takes_one, waits_no_more};
 
 use crate::by_number::{ByNumber, Requests, key_of_if};
 use crate::offer::Offer;
-use jsp_keyed::{Keys, entry_key, lesser};
+use jsp_keyed::{Keys, count_entry_keys, entry_key, lesser};
 use jsp_model::{Blocked, Row};
 use jsp_sight::is_if;
 use jsp_table::Test;
@@ -29,17 +29,18 @@ impl<'a, O: Offer> Test<Blocked> for Taker<'a, O> {
 }
 
 impl<'a, O: Offer> Keys for Taker<'a, O> {
-    ghost sought = { λ t seed. row_keys seed t.row.now };
+    ghost sought = { λ t seed. row_keys seed (O.classes_of t.offer.now) t.row.now };
 
     fn sought_count(&self, _seed: u64) -> usize {
-        self.row.entry.fields.as_slice().len() + 1
+        count_entry_keys(self.offer.classes(), &self.row.entry)
     }
 
     fn sought_key(&self, seed: u64, place: usize) -> u64 {
         entry_key(
             seed,
+            self.offer.classes(),
             self.row.space,
-            self.row.entry.fields.as_slice(),
+            &self.row.entry,
             place,
         )
     }

@@ -46,7 +46,7 @@ fn is_known(name: &str, names: &[&str]) -> bool
 fn text(alloc: Global, text: &str) -> Result<Text, Flaw>
     ensures { Gives result (Some text.now) }
 {
-    Ok(Text::from_string(String::from_str(alloc, text)?))
+    Ok(Text::from_str(alloc, text)?)
 }
 
 /// The text at a key.

@@ -31,7 +31,7 @@ steps-preserved g c =
     let not_done = some_undone g.T.Coming.step (option_copied c.args.to_come) c.args.image.now c.steps.image c.args.debt.now.items c.steps.debt.items _ _ c.steps.invariant.2 (rw (c.as_slice.ensures.value, c.in-Some.is) at c.in_ok-step.ensures.some) in
     let more = c.in_ok-make_owing.ensures in (
       goes_more c.args.image.now c.steps.image c.make_owing.new.image c.args.debt.now.items c.steps.debt.items c.make_owing.new.debt.items c.args.log.now.items c.steps.log.items c.make_owing.new.log.items
-          c.in-Some.step c.steps.invariant.0 free legal more.made more.log more.stays more.owes,
+          c.in-Some.step c.steps.invariant.0 free legal (rw (c.as_slice.ensures.value, c.in-Some.is) at c.in_ok-step.ensures.turn) more.made more.log more.stays more.owes c.make_owing.ensures.once,
       keeps_both c.args.image.now c.steps.image c.make_owing.new.image c.args.bound _ _ _ _ _ _ c.steps.invariant.1 more.keeps,
       λ d. absurd (not_done d),
     )
@@ -40,4 +40,4 @@ pub returns-in_err-make_owing-clause-goes : goal.returns-in_err-make_owing-claus
 returns-in_err-make_owing-clause-goes g c =
     let none = c.in_err-make_owing.ensures in
     goes_none c.args.image.now c.steps.image c.make_owing.new.image c.args.debt.now.items c.steps.debt.items c.make_owing.new.debt.items c.args.log.now.items c.steps.log.items c.make_owing.new.log.items
-    c.steps.invariant.0 none.stays none.err.0 none.err.1
+    c.steps.invariant.0 none.stays none.once none.err.0 none.err.1

@@ -1,4 +1,4 @@
-use Rattle.jsp_rows.proofs.Going.{covers_itself}
+use Rattle.jsp_rows.proofs.Order.{covers_itself}
 use Rattle.jsp_rows.proofs.finishing.make_owing.Goals as goal
 
 pub returns-in_err-spaces-clause-stays : goal.returns-in_err-spaces-clause-stays

@@ -10,8 +10,8 @@ use Rattle.jsp_store.proofs.rows.shows_more.Goals as goal
 not_more : (most n : ℕ) → n ≤ most → false ≡ nat_lt most n
 not_more most n le = grind (arith, nat_tests)
 
-pub returns-then-at_most_in-most : goal.returns-then-at_most_in-most
-returns-then-at_most_in-most c =
+pub returns-then-count_in-most : goal.returns-then-count_in-most
+returns-then-count_in-most c =
     let set = c.args.set.now in
     let few = fewer (shows c.args.classes.now set) (λ (r : Row). r.space == set.space) (λ r is. search rules) c.args.rows.now in
-    not_more c.args.most (length (filter (shows c.args.classes.now set) c.args.rows.now)) (omega (arith, few, c.if-at_most_in-most.true, c.at_most_in.ensures))
+    not_more c.args.most (length (filter (shows c.args.classes.now set) c.args.rows.now)) (omega (arith, few, c.if-count_in-most.true, c.count_in.ensures))

@@ -1,46 +1,47 @@
-use Rattle.std.proofs.Common.{◌≡◌, ℕ, List, ◌<◌, take, length, Some, sym, ◌∙◌, subst, arith, rules}
-use Rattle.std.specs.Prelude.{slice_index}
+use Rattle.std.proofs.Common.{◌≡◌, ◌<◌, Some, sym, ◌∙◌, arith, rules}
 use Rattle.std.proofs.lemmas.Grind.{common_steps}
-use Rattle.std.proofs.lemmas.List.{take_all}
-use Rattle.jsp_table.specs.Finding.{numbered, is_hit, AreMissed}
-use Rattle.jsp_table.proofs.Finding.{first_hit, all_missed, missed_more, Fails, hits_named, missed_before, is_hit_at, fails_at}
-use Rattle.jsp_table.proofs.table.first_named.Goals.{in-Some+else-passes, in_default}
+use Rattle.jsp_table.specs.Finding.{numbered}
+use Rattle.jsp_table.proofs.Next.{next_is_above}
+use Rattle.jsp_table.proofs.Finding.{first_hit, passed_over, none_left, Fails}
 use Rattle.jsp_table.proofs.table.first_named.Goals as goal
 
-pub places-init : goal.places-init
-places-init g c =
-    missed_before g.N.Numbering.number_of (g.P.Test.is_passed c.args.test.now) c.args.numbers.now c.args.after c.place_above-place.result c.args.table.now c.place_above-place.ensures.within c.place_above-place.ensures.before
+pub numbers-smaller : goal.numbers-smaller
+numbers-smaller g c =
+    let above : c.numbers.last < c.in-Some.number = next_is_above c.args.numbers.now c.numbers.last c.in-Some.number (sym c.next_above.ensures.next ∙ c.in-Some.is) in
+    omega arith
 
 pub returns-then-passes : goal.returns-then-passes
 returns-then-passes g c =
     let num = g.N.Numbering.number_of in
     let test = g.P.Test.is_passed c.args.test.now in
-    let ns = c.args.numbers.now in
-    let after = c.args.after in
-    let k = c.places.place in
-    let rows = c.args.table.now in
-    let r = c.in-Some.thing.now in
-    let lt : k < length ns = omega (arith, c.places-test.true, c.len-place-end.ensures.len) in
-    let there : numbered num (slice_index ns k) rows ≡ Some r = first_of (search rules, grind (arith, common_steps)) in
-    let above : after < slice_index ns k = c.place_above-place.ensures.beyond k c.places.auto.place lt in
-    sym (first_hit num (is_hit num test ns after) ns k rows r c.len-place-end.ensures.increasing c.get.ensures.rising (hits_named num test ns after rows) c.places.invariant lt there
-    (is_hit_at num test ns after k rows r lt above there (sym c.passes.ensures ∙ c.if-passes.true)))
+    let things = c.args.table.now in
+    let there : numbered num c.in-Some.number things ≡ Some c.in-Some-get.thing.now = first_of (search rules, grind (arith, common_steps)) in
+    let first = first_hit num test c.args.numbers.now c.next_above.ensures.increasing c.numbers.last c.in-Some.number (sym c.next_above.ensures.next ∙ c.in-Some.is) things c.in-Some-get.thing.now c.get.ensures.rising there (sym c.passes.ensures ∙ c.if-passes.true) in
+    sym first ∙ c.numbers.invariant
 
-pub places-preserved : goal.places-preserved
-places-preserved g c =
+pub numbers-preserved : goal.numbers-preserved
+numbers-preserved g c =
     let num = g.N.Numbering.number_of in
     let test = g.P.Test.is_passed c.args.test.now in
-    let ns = c.args.numbers.now in
-    let fails : Fails num test (slice_index ns c.places.place) c.args.table.now = elim c.match-get.branch [
-      | in-Some+else-passes w ↦ first_of (search rules, grind (arith, common_steps))
-      | in_default w ↦ first_of (search rules, grind (arith, common_steps))
-    ] in
-    missed_more num (is_hit num test ns c.args.after) ns c.places.place c.args.table.now c.get.ensures.rising (omega (arith, c.places-test.true, c.len-place-end.ensures.len)) c.places.invariant (fails_at num test ns c.args.after (slice_index ns c.places.place) c.args.table.now fails)
+    let things = c.args.table.now in
+    let fails : Fails num test c.in-Some.number things = first_of (search rules, grind (arith, common_steps)) in
+    passed_over num test c.args.numbers.now c.next_above.ensures.increasing c.numbers.last c.in-Some.number (sym c.next_above.ensures.next ∙ c.in-Some.is) things c.get.ensures.rising fails ∙ c.numbers.invariant
+
+pub numbers-smaller-else-passes : goal.numbers-smaller-else-passes
+numbers-smaller-else-passes g c =
+    let above : c.numbers.last < c.in-Some.number = next_is_above c.args.numbers.now c.numbers.last c.in-Some.number (sym c.next_above.ensures.next ∙ c.in-Some.is) in
+    omega arith
+
+pub numbers-preserved-else-passes : goal.numbers-preserved-else-passes
+numbers-preserved-else-passes g c =
+    let num = g.N.Numbering.number_of in
+    let test = g.P.Test.is_passed c.args.test.now in
+    let things = c.args.table.now in
+    let fails : Fails num test c.in-Some.number things = first_of (search rules, grind (arith, common_steps)) in
+    passed_over num test c.args.numbers.now c.next_above.ensures.increasing c.numbers.last c.in-Some.number (sym c.next_above.ensures.next ∙ c.in-Some.is) things c.get.ensures.rising fails ∙ c.numbers.invariant
 
 pub returns : goal.returns
 returns g c =
     let num = g.N.Numbering.number_of in
-    let ns = c.args.numbers.now in
-    let p = is_hit num (g.P.Test.is_passed c.args.test.now) ns c.args.after in
-    let all : take c.places.place ns ≡ ns = take_all c.places.place ns (omega (arith, c.places-test.false, c.len-place-end.ensures.len)) in
-    sym (all_missed num p ns c.args.table.now (hits_named num (g.P.Test.is_passed c.args.test.now) ns c.args.after c.args.table.now) (subst (λ (w : List ℕ). AreMissed num p w c.args.table.now) all c.places.invariant))
+    let test = g.P.Test.is_passed c.args.test.now in
+    sym (none_left num test c.args.numbers.now c.numbers.last c.args.table.now (sym c.next_above.ensures.next ∙ c.in_default.is)) ∙ c.numbers.invariant

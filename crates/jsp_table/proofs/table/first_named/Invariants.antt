@@ -1,6 +1,10 @@
-use Rattle.std.proofs.Common.{take}
-use Rattle.jsp_table.specs.Finding.{is_hit, AreMissed}
+use Rattle.std.proofs.Common.{◌≡◌, ◌-◌, ◌^◌}
+use Rattle.std.specs.Prelude.{find}
+use Rattle.jsp_table.specs.Finding.{is_hit}
 use Rattle.jsp_table.proofs.table.first_named.Given as goal
 
-abbrev pub invariant-places : goal.invariant-places
-invariant-places g l = AreMissed g.N.Numbering.number_of (is_hit g.N.Numbering.number_of (g.P.Test.is_passed l.test) l.numbers l.after) (take l.place l.numbers) l.table
+abbrev pub invariant-numbers : goal.invariant-numbers
+invariant-numbers g l = find (is_hit g.N.Numbering.number_of (g.P.Test.is_passed l.test) l.numbers l.last) l.table ≡ find (is_hit g.N.Numbering.number_of (g.P.Test.is_passed l.test) l.numbers l.after) l.table
+
+abbrev pub decreases-numbers : goal.decreases-numbers
+decreases-numbers g l = 2 ^ 64 - l.last

@@ -41,5 +41,5 @@ returns g c =
     let all : take i seen ≡ seen = take_all i seen (first_of (omega (arith, c.classes-test.false), grind (arith, common_steps))) in
     let done : IsLeast p (is_like_of classes space like seen) rows found = subst (λ (w : List (List ℕ)). IsLeast p (is_like_of classes space like w) rows found) all c.classes.invariant in
     let classed : AllByRecursion (λ (r : Row). IsAmong seen r.entry.class) rows = subst (λ (w : List Row). AllByRecursion (λ (r : Row). IsAmong seen r.entry.class) w) c.self.view_is
-    (subst (λ (w : List (List ℕ)). AllByRecursion (λ (r : Row). IsAmong w r.entry.class) c.self.inside.rows) (sym c.as_slice-class-items.ensures) c.self.invariant) in
+    (subst (λ (w : List (List ℕ)). AllByRecursion (λ (r : Row). IsAmong w r.entry.class) c.self.inside.rows) (sym c.as_slice-class-items.ensures) c.self.invariant.classes) in
     least_among number p (λ (r : Row). IsAmong seen r.entry.class) (is_like_of classes space like seen) (is_like classes space (Like like)) rows found classed (λ r a h. of_seen classes space like seen r a h) done

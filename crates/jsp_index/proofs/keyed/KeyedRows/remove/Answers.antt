@@ -1,10 +1,12 @@
-use Rattle.std.proofs.Common.{not, eqb, sym, subst}
-use Rattle.jsp_model.specs.declared.state.Row.{Row}
-use Rattle.jsp_index.specs.Seen.{IsAmong, AreSeen}
-use Rattle.jsp_index.proofs.Holders.{all_filtered}
+use Rattle.std.proofs.Common.{ap, sym, ◌∙◌}
+use Rattle.jsp_index.specs.Finding.{row_numbered}
+use Rattle.jsp_index.proofs.Beside.{left_beside, none_goes}
 use Rattle.jsp_index.proofs.keyed.KeyedRows.remove.Goals as goal
 
 pub invariant_of-self : goal.invariant_of-self
 invariant_of-self c =
     let self = c.self.inside in
-    subst (AreSeen self.seen) (sym c.remove.ensures) (all_filtered (λ (r : Row). IsAmong self.seen r.entry.class) (λ (r : Row). not (eqb r.number c.args.number)) self.rows c.self.invariant)
+    left_beside self.seen self.counts self.rows c.self.invariant c.count_one_less.new.counts c.args.number c.in-Some.row.now c.remove.new.self c.places.ensures.rising (sym c.in-Some.ensures) c.count_one_less.ensures c.remove.ensures
+
+pub returns-in_default : goal.returns-in_default
+returns-in_default c = none_goes c.args.number c.args.self.now (ap (λ w. row_numbered c.args.number w) (sym c.self.view_is) ∙ sym c.in_default.ensures)

@@ -11,10 +11,10 @@ use Rattle.jsp_kept.proofs.kept.Kept.act_in_era.Goals as goal
 
 pub invariant_of-self : goal.invariant_of-self
 invariant_of-self g c =
-    let acts = c.act-result.ensures.acts in
+    let acts = c.act_ready-result.ensures.acts in
     let st = g.H.House.view c.self.inside.house in
     let s = c.seat.inside.session in
-    let r = c.act-result.result in
+    let r = c.act_ready-result.result in
     let by : c.own_steps-by.result ≡ made (is_open st s) r = c.own_steps-by.ensures ∙ ap (λ b. made b r) c.is_open-open.ensures in
     let lawful = rw (← c.self.view_is, ← c.seat.view_is) at c.requires.lawful in
     let of = rw (← c.seat.view_is) at c.requires.of in
@@ -23,8 +23,8 @@ invariant_of-self g c =
     (record {
       era = record { spaces = refl; era = refl; is_sealed = refl };
       makes = acts.makes;
-      room = c.act-result.ensures.room;
-      bound = c.act-result.ensures.bound;
+      room = c.act_ready-result.ensures.room;
+      bound = c.act_ready-result.ensures.bound;
       before_is = search rules;
       after_is = search rules;
       limit = refl;
@@ -34,10 +34,10 @@ invariant_of-self g c =
 
 pub returns-clause-performs : goal.returns-clause-performs
 returns-clause-performs g c =
-    let acts = c.act-result.ensures.acts in
+    let acts = c.act_ready-result.ensures.acts in
     let st = g.H.House.view c.self.inside.house in
     let s = c.seat.inside.session in
-    let r = c.act-result.result in
+    let r = c.act_ready-result.result in
     let by : c.own_steps-by.result ≡ made (is_open st s) r = c.own_steps-by.ensures ∙ ap (λ b. made b r) c.is_open-open.ensures in
     let lawful = rw (← c.self.view_is, ← c.seat.view_is) at c.requires.lawful in
     let of = rw (← c.seat.view_is) at c.requires.of in
@@ -49,5 +49,4 @@ returns-clause-performs g c =
 pub returns-clause-why : goal.returns-clause-why
 returns-clause-why g c =
     let place = rw (← c.self.view_is) at c.requires.place in
-    let ready = rw (← c.self.view_is) at c.requires.ready in
-    needs_memory _ _ _ _ c.act-result.result c.self.invariant place (search rules) (c.act-result.ensures.ready ready) c.act-result.ensures.why
+    needs_memory _ _ _ _ c.act_ready-result.result c.self.invariant place (search rules) c.act_ready-result.ensures.full c.act_ready-result.ensures.why

@@ -10,8 +10,8 @@ invariant_of-result g c =
     (record {
       state = c.bound.ensures.view ∙ (c.requires.house ∙ ap empty same);
       steps = c.new.ensures.items;
-      asked = c.new-2.ensures.items;
-      taken = c.new-3.ensures.items;
+      asked = c.new-3.ensures.items;
+      taken = c.new-4.ensures.items;
       asks_book = c.open-asks.ensures.total;
       outs_book = c.open-outs.ensures.total;
     })

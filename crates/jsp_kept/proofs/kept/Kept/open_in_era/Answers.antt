@@ -10,17 +10,17 @@ use Rattle.jsp_kept.proofs.Ending.{needs_memory, undone_needs}
 use Rattle.jsp_kept.proofs.Begun.{undone_open, undone_counts, accepts_next, opens_only, grows_by_open, performs_begun, whole_begun}
 use Rattle.jsp_kept.proofs.kept.Kept.open_in_era.Goals as goal
 
-pub invariant_of-self-in-Err-act : goal.invariant_of-self-in-Err-act
-invariant_of-self-in-Err-act g c =
-    let acts = c.in-Err-act.ensures.acts in
+pub invariant_of-self-in-Err-act_ready : goal.invariant_of-self-in-Err-act_ready
+invariant_of-self-in-Err-act_ready g c =
+    let acts = c.in-Err-act_ready.ensures.acts in
     let st = g.H.House.view c.self.inside.house in
-    let none = subst IsUncounted (sym acts.own) (undone_counts st (input.Open c.args.session) (Err c.in-Err-act.stopped) c.in-Err-act.stopped refl c.in-Err-act.ensures.opens) in
+    let none = subst IsUncounted (sym acts.own) (undone_counts st (input.Open c.args.session) (Err c.in-Err-act_ready.stopped) c.in-Err-act_ready.stopped refl c.in-Err-act_ready.ensures.opens) in
     whole_quietly _ _ _ _ acts.steps _ _ c.self.invariant
     (record {
       era = record { spaces = refl; era = refl; is_sealed = refl };
       makes = acts.makes;
-      room = c.act.ensures.room;
-      bound = c.act.ensures.bound;
+      room = c.act_ready.ensures.room;
+      bound = c.act_ready.ensures.bound;
       before_is = search rules;
       after_is = search rules;
       limit = refl;
@@ -28,18 +28,18 @@ invariant_of-self-in-Err-act g c =
     })
     none (record { asked = c.reserve_both.ensures.asked; book = refl }) (record { taken = c.reserve_both.ensures.taken; book = refl }) refl refl
 
-pub returns-in-Err-act-clause-performs : goal.returns-in-Err-act-clause-performs
-returns-in-Err-act-clause-performs g c =
-    let acts = c.in-Err-act.ensures.acts in
+pub returns-in-Err-act_ready-clause-performs : goal.returns-in-Err-act_ready-clause-performs
+returns-in-Err-act_ready-clause-performs g c =
+    let acts = c.in-Err-act_ready.ensures.acts in
     let st = g.H.House.view c.self.inside.house in
-    let none = subst IsUncounted (sym acts.own) (undone_counts st (input.Open c.args.session) (Err c.in-Err-act.stopped) c.in-Err-act.stopped refl c.in-Err-act.ensures.opens) in
+    let none = subst IsUncounted (sym acts.own) (undone_counts st (input.Open c.args.session) (Err c.in-Err-act_ready.stopped) c.in-Err-act_ready.stopped refl c.in-Err-act_ready.ensures.opens) in
     rw (← c.self.view_is) (performs_in_era _ _ _ acts.steps _ (record { spaces = refl; era = refl; is_sealed = refl }) acts.makes
     (grows_quietly _ _ _ c.self.invariant.kept none (record { asked = c.reserve_both.ensures.asked; book = refl }) (record { taken = c.reserve_both.ensures.taken; book = refl }))
     acts.own acts.leaves)
 
 pub invariant_of-self-2 : goal.invariant_of-self-2
 invariant_of-self-2 g c =
-    let acts = c.in_default-act.ensures.acts in
+    let acts = c.in_default-act_ready.ensures.acts in
     let st = g.H.House.view c.self.inside.house in
     let s = c.args.session in
     let is : s ≡ st.last_session + 1 = rw (← c.self.view_is) at c.requires.next in
@@ -50,13 +50,13 @@ invariant_of-self-2 g c =
     (c.push_reserved.ensures.items ∙ ap (λ xs. xs ++ 0 ∷ []) c.reserve_both.ensures.asked) refl
     (c.push_reserved-2.ensures.items ∙ ap (λ xs. xs ++ 0 ∷ []) c.reserve_both.ensures.taken) refl)
     is
-    (stays_within _ _ _ _ acts.steps _ _ c.self.invariant (record { spaces = refl; era = refl; is_sealed = refl }) acts.makes (rw own refl) c.act.ensures.room c.act.ensures.bound (search rules) (search rules) refl)
+    (stays_within _ _ _ _ acts.steps _ _ c.self.invariant (record { spaces = refl; era = refl; is_sealed = refl }) acts.makes (rw own refl) c.act_ready.ensures.room c.act_ready.ensures.bound (search rules) (search rules) refl)
     c.split_off.ensures.parts_left c.split_off-2.ensures.parts_left c.split_off.ensures.amount_left c.split_off-2.ensures.amount_left
     c.self.invariant.asks_sum c.self.invariant.outs_sum
 
 pub returns-clause-performs : goal.returns-clause-performs
 returns-clause-performs g c =
-    let acts = c.in_default-act.ensures.acts in
+    let acts = c.in_default-act_ready.ensures.acts in
     let st = g.H.House.view c.self.inside.house in
     let s = c.args.session in
     let is : s ≡ st.last_session + 1 = rw (← c.self.view_is) at c.requires.next in

@@ -1,0 +1,32 @@
+//! A shell for people and scripts: lines of text become requests, and what the server says becomes lines.
+//!
+//! Each line of the input is a request in the protocol's JSON without its id, or in a short form that can be typed, as
+//! `take a Job k=1 timeout=5000` (`form.rt` has the forms). What is said by the server is printed as it comes, a line
+//! each. [`Client`] reads the connection, and [`Typing`] reads the input in another thread, so that an event is printed
+//! while nobody types.
+//!
+//! A session ends well only where nothing was refused (`specs/Refused.antt`): that, and that a printed line is what was
+//! said and a line's end, is proved. All else about what is sent and printed is tested.
+#![tactic(auto)]
+
+mod advice;
+mod client;
+mod desk;
+mod fault;
+mod form;
+mod help;
+mod input;
+mod json;
+mod line;
+mod print;
+mod refused;
+mod request;
+mod session;
+mod short;
+mod typing;
+mod word;
+
+pub use client::Client;
+pub use fault::ShellFault;
+pub use refused::Refused;
+pub use typing::Typing;

@@ -1,0 +1,8 @@
+-- The numbers of a list, however they are kept.
+use Rattle.std.specs.Prelude.{ℕ, List}
+use Rattle.jsp_table.specs.declared.numbers.Kept.{Kept}
+use Rattle.jsp_table.specs.declared.numbers.Kept.TheVariants.{Few, Many}
+
+abbrev pub numbers_in : Kept → List ℕ
+numbers_in (Few numbers) = numbers.items
+numbers_in (Many numbers) = numbers.keys

@@ -1,0 +1,333 @@
+"""The shell client, `jsp client`: what it prints, tells and ends with.
+
+    python3 shell.py CASE PROGRAM [HOST:PORT]
+
+Each case is run against a server of its own, or needs none, and prints nothing where all is as it should be.
+`shell.py cases` lists those with a server, with how many connections each opens, and `shell.py alone` the others. What is
+to come is worked out by docs/PROTOCOL.md.
+"""
+import json
+import socket
+import struct
+import subprocess
+import sys
+import time
+
+SECONDS = 60
+
+# A person's session: each line, and what is printed before the next. The numbers of leases, transactions and match sets
+# are drawn in order.
+SESSION = [
+    ("declare Job k:int who:text", ['{"id":1,"ok":null}']),
+    ("declare Rush n:int parent=Job", ['{"id":2,"ok":null}']),
+    ("write a Job k=1 who=ann lease=60000", ['{"id":3,"ok":{"lease":1,"ms":60000}}']),
+    ('write a Rush k=2 n=-9 who="ann \\"lee\\"" lease=60000', ['{"id":4,"ok":{"lease":2,"ms":60000}}']),
+    ("read a Job k=1", ['{"id":5,"ok":{"class":"Job","fields":{"k":1,"who":"ann"}}}']),
+    ("read_if a Rush n=-9", ['{"id":6,"ok":{"class":"Rush","fields":{"k":2,"n":-9,"who":"ann \\"lee\\""}}}']),
+    ("take_if a Job k=5 timeout=60000", ['{"id":7,"ok":null}']),
+    ("take a Job k=1 wait=60000", ['{"id":8,"ok":{"class":"Job","fields":{"k":1,"who":"ann"}}}']),
+    ("renew 2 5000", ['{"id":9,"ok":{"lease":2,"ms":5000}}']),
+    ('notify a Job who="3" lease=60000 handback="my jobs"', ['{"id":10,"ok":{"lease":3,"ms":60000}}']),
+    # The lease that isn't named is the server's, of a minute.
+    (
+        'write a Job who="3"',
+        ['{"id":11,"ok":{"lease":4,"ms":60000}}', '{"event":{"handback":"my jobs","lease":3,"seq":1}}'],
+    ),
+    ("renew_all 2:7000 4:-1", ['{"id":12,"ok":[{"lease":2,"ms":7000},{"lease":4,"ms":60000}]}']),
+    ("cancel 3", ['{"id":13,"ok":null}']),
+    ("cancel_all 2 4", ['{"id":14,"ok":[{"lease":2},{"lease":4}]}']),
+    ("begin lease=60000", ['{"id":15,"ok":{"lease":5,"ms":60000}}']),
+    ("write b Job k=8 txn=5", ['{"id":16,"ok":{"lease":6,"ms":60000}}']),
+    ("state 5", ['{"id":17,"ok":"active"}']),
+    ("commit 5", ['{"id":18,"ok":null}']),
+    ("take b Job k=8", ['{"id":19,"ok":{"class":"Job","fields":{"k":8,"who":null}}}']),
+    ("txn", ['{"id":20,"ok":{"lease":7,"ms":60000}}']),
+    ("abort 7", ['{"id":21,"ok":null}']),
+    (
+        'write_all b Job k=1, Job k=2 who="a, b" , Job k=3 lease=60000',
+        ['{"id":22,"ok":{"leases":[8,9,10],"ms":60000}}'],
+    ),
+    ("contents b Job lease=60000", ['{"id":23,"ok":{"lease":11,"ms":60000}}']),
+    (
+        "next 11 most=2",
+        [
+            '{"id":24,"ok":{"end":false,"entries":[{"class":"Job","fields":{"k":1,"who":null}},'
+            '{"class":"Job","fields":{"k":2,"who":"a, b"}}]}}'
+        ],
+    ),
+    ("next 11", ['{"id":25,"ok":{"end":true,"entries":[{"class":"Job","fields":{"k":3,"who":null}}]}}']),
+    ("close_set 11", ['{"id":26,"ok":null}']),
+    (
+        "take_many b Job k=3, Job k=1",
+        ['{"id":27,"ok":[{"class":"Job","fields":{"k":1,"who":null}},{"class":"Job","fields":{"k":3,"who":null}}]}'],
+    ),
+    ("reset b", ['{"id":28,"ok":null}']),
+    ('  {"timeout":0,"op":"read","space":"b","template":null}', ['{"id":29,"ok":null}']),
+    ("take b *", ['{"id":30,"ok":null}']),
+    ("hello 1", ['{"id":31,"ok":null}']),
+    ("spaces", ['{"id":32,"ok":["a","b"]}']),
+    ("bye", ['{"id":33,"ok":null}']),
+]
+
+# Lines for which nothing is sent, with a part of what is told.
+BAD_LINES = [
+    ("take", "`take` lacks `space`"),
+    ("write a", "`write` lacks `entry`"),
+    ("write a Job k", "`k` isn't `field=value`"),
+    ("write a Job k=1 k=2", "`k` is there twice"),
+    ("write a Job lease=1 lease=2", "`lease` is there twice"),
+    ("write a Job lease=soon", "`soon` is no number of 64 bits"),
+    ("write a Job k=9223372036854775808", "`9223372036854775808` is no number of 64 bits"),
+    ('write a Job who="ann', "a quote isn't closed"),
+    ('write a Job who="ann"lee', '`"ann"lee` is no text'),
+    ("write a Job, Job", "`,` isn't `field=value`"),
+    ("write_all a Job,", "`` isn't an entry"),
+    ("declare Job k=int", "`k=int` isn't `field:kind`"),
+    ("renew 5", "`renew` lacks `ms`"),
+    ("renew_all 5", "`5` isn't `lease:ms`"),
+    ("cancel_all", "`cancel_all` lacks `leases`"),
+    ("cancel 5 6", "`cancel` has no place for `6`"),
+    ("spaces a", "`spaces` has no place for `a`"),
+    ("Take a", "no operation `Take`"),
+    ("help Take", "no operation `Take`"),
+    ("help take now", "`help` has no place for `now`"),
+    ('{"op":"take","space":"a","template":null}', "`take` lacks `timeout`"),
+    ('{"op":"take","space":"a","template":null,"timeout":0,"wait":0}', "`take` has no place for `wait`"),
+    ('{"op":"spaces","id":1}', "`id` is there, which the client gives"),
+    ('{"op":"begin","lease":1}', "no operation `begin`"),
+    ('{"space":"a"}', "`op` is missing"),
+    ('{"op":"spaces"', "not JSON: "),
+    ("write a Job who=" + "x" * 1_048_577, "longer than 1048576 bytes"),
+    ("write a Job who=" + "x" * 1_048_550, "longer than 1048576 bytes"),
+]
+
+# What a server refuses: the line, the answer, and what is told of it.
+REFUSED = [
+    ("take x", '{"fault":5,"id":1}', "refused, 5 UnknownSpace: "),
+    ("write a Car", '{"fault":8,"id":2}', "refused, 8 UnknownClass: "),
+    ("take a * timeout=-1", '{"fault":11,"id":3}', "refused, 11 BadTimeout: "),
+    ("commit 5", '{"fault":13,"id":4}', "refused, 13 UnknownTransaction: "),
+    ("next 5 most=17", '{"fault":2,"id":5}', "refused, 2 BadRequest: "),
+    ("cancel_all 9", '{"id":6,"ok":[{"fault":12,"lease":9}]}', "refused, 12 UnknownLease: "),
+]
+
+
+class Shell:
+    """A client whose input is written, and whose output read, as it goes on."""
+
+    def __init__(self, program, address):
+        self.ran = subprocess.Popen(
+            [program, "client", address],
+            stdin=subprocess.PIPE,
+            stdout=subprocess.PIPE,
+            stderr=subprocess.PIPE,
+            text=True,
+            bufsize=1,
+        )
+
+    def write(self, line):
+        self.ran.stdin.write(line + "\n")
+
+    def read(self):
+        return self.ran.stdout.readline().rstrip("\n")
+
+    def end(self):
+        """What is left of its output, what it told, and its status."""
+        out, told = self.ran.communicate(timeout=SECONDS)
+        return out, told, self.ran.returncode
+
+
+def run(program, address, lines, *request):
+    """The output, the lines that are told and the status of a whole run."""
+    text = "".join(line + "\n" for line in lines)
+    ran = subprocess.run([program, "client", address, *request], input=text, capture_output=True, text=True, timeout=SECONDS)
+    return ran.stdout.splitlines(), ran.stderr.splitlines(), ran.returncode
+
+
+def same(found, wanted):
+    assert found == wanted, f"found {found!r}, wanted {wanted!r}"
+
+
+def each_operation(program, address):
+    """A session with every operation, typed line by line. It ends by `bye`, though the input goes on."""
+    shell = Shell(program, address)
+    for line, printed in SESSION:
+        shell.write(line)
+        for wanted in printed:
+            same(shell.read(), wanted)
+    shell.ran.wait(SECONDS)
+    same(shell.end(), ("", "", 0))
+
+
+def what_is_refused(program, address):
+    """Each refusal is printed, and told with the number of its line. The status is 1."""
+    out, told, status = run(program, address, ["# refused, all of it", "", *(line for line, _, _ in REFUSED)])
+    same(out, [printed for _, printed, _ in REFUSED])
+    same(len(told), len(REFUSED))
+    for number, (line, (_, _, wanted)) in enumerate(zip(told, REFUSED), 3):
+        assert line.startswith(f"jsp: line {number}: {wanted}"), line
+        assert not line.endswith(": "), line
+    same(status, 1)
+
+
+def bad_lines(program, address):
+    """Nothing is sent for them, and the next line is taken all the same."""
+    out, told, status = run(program, address, [*(line for line, _ in BAD_LINES), "spaces"])
+    same(out, ['{"id":1,"ok":["a","b"]}'])
+    same(len(told), len(BAD_LINES))
+    for number, (line, (_, wanted)) in enumerate(zip(told, BAD_LINES), 1):
+        assert line.startswith(f"jsp: line {number}: {wanted}"), line
+    same(status, 1)
+
+
+def bytes_that_are_no_text(program, address):
+    """A line in another encoding is told, and one with a carriage return at its end is taken, as is one at the bound."""
+    at_the_bound = b'{"op":"spaces"' + b" " * (1_048_576 - 15) + b"}"
+    text = b"spaces\r\n\xff\n" + at_the_bound + b"\nspaces"
+    ran = subprocess.run([program, "client", address], input=text, capture_output=True, timeout=SECONDS)
+    same(ran.stdout, b"".join(b'{"id":%d,"ok":["a","b"]}\n' % number for number in (1, 2, 3)))
+    same((ran.stderr, ran.returncode), (b"jsp: line 2: not text in UTF-8\n", 1))
+
+
+def an_event_comes_in_silence(program, address):
+    """It is printed while standard input is open and nobody writes."""
+    shell = Shell(program, address)
+    shell.write("declare Job k:int")
+    same(shell.read(), '{"id":1,"ok":null}')
+    shell.write("notify a Job k=3 lease=60000")
+    same(shell.read(), '{"id":2,"ok":{"lease":1,"ms":60000}}')
+    same(run(program, address, [], "write a Job k=3 lease=60000"), (['{"id":1,"ok":{"lease":2,"ms":60000}}'], [], 0))
+    same(shell.read(), '{"event":{"handback":"","lease":1,"seq":1}}')
+    same(shell.end(), ("", "", 0))
+
+
+def the_end_of_input_waits(program, address):
+    """What waits is answered before the client ends. After `bye` it isn't, and that counts as refused."""
+    began = time.monotonic()
+    same(run(program, address, ["take a * timeout=300"]), (['{"id":1,"ok":null}'], [], 0))
+    # The server's clock tells whole milliseconds.
+    assert time.monotonic() - began > 0.298
+    lines = ["take a * timeout=1000000", "bye", "spaces"]
+    same(run(program, address, lines), (['{"id":2,"ok":null}'], ["jsp: line 1: not answered"], 1))
+    same(run(program, address, []), ([], [], 0))
+
+
+def one_request(program, address):
+    """A request that is an argument is the only one: standard input isn't read."""
+    same(run(program, address, ["spaces"], "declare Job k:int"), (['{"id":1,"ok":null}'], [], 0))
+    same(run(program, address, [], "write a Job k=1 lease=60000")[0], ['{"id":1,"ok":{"lease":1,"ms":60000}}'])
+    same(run(program, address, [], "take a Job")[0], ['{"id":1,"ok":{"class":"Job","fields":{"k":1}}}'])
+    out, told, status = run(program, address, [], "take x")
+    same((out, len(told), status), (['{"fault":5,"id":1}'], 1, 1))
+    out, told, status = run(program, address, [], "take")
+    same((out, told[0][:20], status), ([], "jsp: line 1: `take` ", 1))
+    out, told, status = run(program, address, [], "help take")
+    assert out[0].startswith("take space "), out
+    same((len(out), told, status), (3, [], 0))
+
+
+def many_at_once(program, address):
+    """Ten thousand requests are written before an answer is read, and each is answered."""
+    out, told, status = run(program, address, ["spaces"] * 10_000)
+    same(out, ['{"id":%d,"ok":["a","b"]}' % number for number in range(1, 10_001)])
+    same((told, status), ([], 0))
+
+
+def help_has_each_operation(program, address):
+    """All that the session above uses, and an example of each, which is understood."""
+    out, told, status = run(program, address, ["help"])
+    same((told, status), ([], 0))
+    for line, _ in SESSION:
+        word = line.strip().split()[0]
+        assert word[0] == "{" or any(word in form.split()[0].split("|") for form in out if form[:2] == "  "), word
+    forms = [form.split()[0].split("|")[0] for form in out if form[:2] == "  "]
+    examples = [run(program, address, [], f"help {form}")[0][2] for form in forms]
+    _, told, _ = run(program, address, [example for example in examples if example.strip() != "bye"])
+    assert all(line.split(": ")[2].startswith("refused, ") for line in told), told
+
+
+def served_once(told):
+    """A server of Python's that answers the first frame so, and then ends the connection; and where it listens."""
+    server = socket.create_server(("127.0.0.1", 0))
+
+    def serve():
+        stream, _ = server.accept()
+        with stream, server:
+            (length,) = struct.unpack(">I", stream.recv(4, socket.MSG_WAITALL))
+            first = json.loads(stream.recv(length, socket.MSG_WAITALL))
+            same(first, {"id": 0, "op": "hello", "version": 2})
+            stream.sendall(told)
+            stream.shutdown(socket.SHUT_WR)
+            while stream.recv(4096):
+                pass
+
+    return serve, "127.0.0.1:%d" % server.getsockname()[1]
+
+
+def against(program, told):
+    """What a client whose input stays open makes of it."""
+    serve, address = served_once(told)
+    shell = Shell(program, address)
+    serve()
+    shell.ran.wait(SECONDS)
+    return shell.end()
+
+
+def frame(payload):
+    return struct.pack(">I", len(payload)) + payload
+
+
+HELLO = frame(b'{"id":0,"ok":null}')
+
+
+def a_server_that_goes_away(program):
+    """The client says so at once, also while its input is open and silent."""
+    same(against(program, HELLO), ("", "jsp: the server ended the connection\n", 1))
+    same(against(program, b""), ("", "jsp: the server ended the connection\n", 1))
+    same(against(program, HELLO + b"\0\0"), ("", "jsp: the server ended the connection\n", 1))
+
+
+def a_server_that_sends_garbage(program):
+    """What is no JSON, and a frame past the limit, end the session. An answer that nobody asked for is printed."""
+    same(against(program, HELLO + frame(b"what")), ("", "jsp: the server sent what isn't JSON\n", 1))
+    same(against(program, HELLO + frame(b"")), ("", "jsp: the server sent what isn't JSON\n", 1))
+    same(against(program, b"\0\x10\0\1"), ("", "jsp: the server sent a frame that is too long\n", 1))
+    out, told, status = against(program, frame(b'{"fault":23,"id":7}') + frame(b"[null]"))
+    same(out, '{"fault":23,"id":7}\n[null]\n')
+    same((told, status), ("jsp: refused, 23\njsp: the server ended the connection\n", 1))
+
+
+def a_server_that_is_not_there(program):
+    """The client says why, and sends nothing."""
+    with socket.create_server(("127.0.0.1", 0)) as server:
+        address = "127.0.0.1:%d" % server.getsockname()[1]
+    for wrong in (address, "nowhere"):
+        out, told, status = run(program, wrong, ["spaces"])
+        same((out, len(told), status), ([], 1, 1))
+        assert told[0].startswith("jsp: cannot connect: "), told
+
+
+# With how many connections each opens.
+CASES = {
+    each_operation: 1,
+    what_is_refused: 1,
+    bad_lines: 1,
+    bytes_that_are_no_text: 1,
+    an_event_comes_in_silence: 2,
+    the_end_of_input_waits: 3,
+    one_request: 6,
+    many_at_once: 1,
+    help_has_each_operation: 26,
+}
+
+ALONE = [a_server_that_goes_away, a_server_that_sends_garbage, a_server_that_is_not_there]
+
+if __name__ == "__main__":
+    if sys.argv[1] == "cases":
+        for case, connections in CASES.items():
+            print(case.__name__, connections)
+    elif sys.argv[1] == "alone":
+        for case in ALONE:
+            print(case.__name__)
+    else:
+        globals()[sys.argv[1]](*sys.argv[2:])
