@@ -257,14 +257,15 @@ def relay(address, most):
     then closes both sides."""
     door = socket.create_server(("127.0.0.1", 0))
 
+    # Either side may be closed at any time, by its end or by the other thread.
     def hand_on(reader, writer, most):
-        with suppress(ConnectionError):
+        with suppress(OSError):
             while most > 0 and (piece := reader.recv(min(most, 65_536))):
                 writer.sendall(piece)
                 most -= len(piece)
 
     def serve():
-        with door, door.accept()[0] as client, socket.create_connection(address) as server:
+        with door, door.accept()[0] as client, socket.create_connection(address) as server, suppress(OSError):
             threading.Thread(target=hand_on, args=(client, server, 2**62), daemon=True).start()
             hand_on(server, client, most)
             server.recv(1)  # what is cut off was said, so the request was done

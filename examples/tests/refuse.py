@@ -223,7 +223,7 @@ def lonely(refusing):
 
 def shell(refusing):
     """Each growth of a shell client is refused, alone and with all that follow it: it says that memory is wanting. Where its
-    thread is refused it says that."""
+    thread is refused, or a growth for it, it says that."""
     server, (host, port) = Refusing(refusing.environment["LD_PRELOAD"], refusing.program).listen()
     words = ["client", f"{host}:{port}"]
     text = b'declare Job k:int who:text\nwrite a Job who="ann lee"\n{"op":"spaces"}\nspaces\n'
@@ -232,12 +232,15 @@ def shell(refusing):
     assert (len(out.splitlines()), told, status) == (4, b"", 0), (out, told, status)
     growths = refusing.count(GROWTHS)
     assert growths > 100, growths
+    no_thread = (b"", b"jsp: cannot read standard input in a thread\n", 1)
     wanting = 0
     for many in (1, MANY):
         for growth in range(1, growths + 1):
             refusing.refuse(GROWTHS, growth, many)
             out, told, status = refusing.run(text, *words)
-            if b"out of memory\n" in told:
+            if (out, told, status) == no_thread:
+                wanting += 1
+            elif b"out of memory\n" in told:
                 assert status == 1, (growth, many, status)
                 wanting += 1
             else:
@@ -246,7 +249,7 @@ def shell(refusing):
     assert wanting > growths, (wanting, growths)
     refusing.refuse(GROWTHS, 0)
     refusing.refuse(THREADS, 1)
-    assert refusing.run(text, *words) == (b"", b"jsp: cannot read standard input in a thread\n", 1)
+    assert refusing.run(text, *words) == no_thread
     server.kill()
 
 
