@@ -25,9 +25,6 @@ const TRIES: u32 = 100;
 /// For how many turns a thread pauses between two tries.
 const PAUSES: u32 = 8;
 
-/// No session has this number.
-const NOBODY: u64 = 0;
-
 /// For how long, in milliseconds, the clock isn't read while nothing is to do.
 const REST: u64 = 10;
 
@@ -201,7 +198,12 @@ impl<H: Backlog, A: Ledger, O: Ledger> Floor<H, A, O> {
 
     // Wakes each line that has answers waiting, but that of the session whose own thread takes them. The first for which
     // too many wait is shut, and answered: its client reads none, and holds up nobody else. The lock is held.
-    fn wake_lines<T: Wait>(&self, rt: &T, kept: &mut Kept<H, A, O>, own: u64) -> Option<u64> {
+    fn wake_lines<T: Wait>(
+        &self,
+        rt: &T,
+        kept: &mut Kept<H, A, O>,
+        own: Option<u64>,
+    ) -> Option<u64> {
         let mut shut = None;
         let mut after = 0;
         for _ in rt.forever() {
@@ -212,7 +214,7 @@ impl<H: Backlog, A: Ledger, O: Ledger> Floor<H, A, O> {
                 kept.shut(session);
                 shut = Some(session);
             }
-            if session != own {
+            if own != Some(session) {
                 self.signal(session).notify_all();
             }
             after = session;
@@ -254,7 +256,7 @@ impl<H: Backlog, A: Ledger, O: Ledger> Floor<H, A, O> {
         self.weigh(&mut *kept, bytes);
         kept.free_some();
         let mut held = hold(&mut *kept, asks, self.later(time), given, outs);
-        held.shut = self.wake_lines(rt, &mut *kept, NOBODY);
+        held.shut = self.wake_lines(rt, &mut *kept, None);
         if held.acted.is_err() {
             self.settling.notify_all();
         }
@@ -313,7 +315,7 @@ impl<H: Backlog, A: Ledger, O: Ledger> Floor<H, A, O> {
         Turned {
             settled,
             is_voting: kept.is_voting(),
-            shut: self.wake_lines(rt, &mut *kept, own.unwrap_or(NOBODY)),
+            shut: self.wake_lines(rt, &mut *kept, own),
             ended: self.ended.load(Ordering::SeqCst),
         }
     }
