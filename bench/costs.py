@@ -232,6 +232,33 @@ def over_two_spaces(count):
     return script
 
 
+def holding(operation):
+    """So many entries that a transaction wrote, took or read, ahead of all others."""
+    def script_of(count):
+        script = Script() if operation == "write" else standing(count)
+        txn = script.begin()
+        for value in range(count):
+            if operation == "write":
+                script.write(value, txn=txn)
+            else:
+                script.find(operation, value, txn=txn)
+        return script
+
+    return script_of
+
+
+def takes_beside(operation):
+    """What others write they take again, as the first that there is for them."""
+    def script_of(count):
+        script = holding(operation)(count)
+        for _ in range(TRANSFERS):
+            script.write(50_000_000)
+            script.find("take", None)
+        return script
+
+    return script_of
+
+
 def opened(count):
     script = standing(count)
     script.send('{"op":"hello","version":2}')
@@ -279,6 +306,9 @@ def rows():
     yield "ten writes and their commit", STANDING, standing, transactions, COMMITS
     yield "ten takes and their abort", STANDING, standing, aborts, COMMITS
     yield "a transfer beside open transactions", (0, 100, 1_000), idle_transactions, over_two_spaces, TRANSFERS
+    for operation, done in ("write", "wrote"), ("take", "took"), ("read", "read"):
+        name = f"a write and a take, beside entries that a transaction {done}"
+        yield name, (0, 1_000, 10_000, 60_000), holding(operation), takes_beside(operation), TRANSFERS
     yield "a page of sixteen", (1_000, 10_000, 60_000), opened, pages, 480
     yield "a lease's end at one reading", (15_000, 30_000, 60_000), standing, ending, None
     yield "a reading of the clock", STANDING, standing, readings, MANY

@@ -15,7 +15,7 @@ mod tests;
 pub use door::{Door, Knock};
 pub use jsp_closing::{Closed, Ended, LineReport, RunFault};
 pub use jsp_line::{
-    Clock, Counted, Floor, Gate, Hangup, Health, LineDone, OutDone, OutHalf, ReadDone, Shared,
-    Start, Transcript,
+    Clock, Counted, Counts, Floor, Gate, Hangup, Health, LineDone, OutDone, OutHalf, ReadDone,
+    Shared, SpaceCounts, Start, Transcript,
 };
 pub use run::{Bounds, run_house};

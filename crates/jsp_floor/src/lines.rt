@@ -49,6 +49,11 @@ impl<X: Hangup + Drop> Lines<X> {
         self.progress.lock(rt).lines.len() >= self.most
     }
 
+    /// How many lines are served.
+    pub(crate) fn count<T: Wait>(&self, rt: &T) -> u64 {
+        self.progress.lock(rt).lines.len() as u64
+    }
+
     /// A line begins to be served. No where there is no memory to note it.
     pub(crate) fn enter<T: Wait>(&self, rt: &T, session: u64, hangup: &Arc<X>) -> bool {
         let Ok(hangup) = Arc::try_clone(hangup) else {

@@ -11,7 +11,7 @@ use crate::lines::Lines;
 use crate::served::{Served, fault_of};
 use jsp_closing::{Closed, RunFault, close};
 use jsp_kept::{AskSeat, Backlog, Kept, OutSeat};
-use jsp_line::{Clock, Floor, Gate, Hangup, Shared, start};
+use jsp_line::{Clock, Counts, Floor, Gate, Hangup, Shared, start};
 use jsp_model::Config;
 use std::alloc::Global;
 use std::io::{Read, Write};
@@ -78,6 +78,16 @@ impl<X: Hangup + Drop, G: Gate, T: Wait> Gate for RunGate<'_, '_, '_, X, G, T> {
     fn cut(&self, session: u64) {
         self.lines.hang_up(self.rt, session);
         self.gate.cut(session);
+    }
+
+    fn wants_counts(&self) -> bool {
+        self.gate.wants_counts()
+    }
+
+    fn counted(&self, counts: Counts) {
+        let mut counts = counts;
+        counts.lines = self.lines.count(self.rt);
+        self.gate.counted(counts);
     }
 }
 

@@ -1,7 +1,7 @@
 //! Whole runs over readers and writers in memory. What each line is sent was worked out by the rules of the protocol.
 ghost use Rattle.std.specs.Prelude.{◌≤◌};
 
-use crate::{Bounds, Clock, Closed, Door, Ended, Gate, Hangup, Knock, run_house};
+use crate::{Bounds, Clock, Closed, Counts, Door, Ended, Gate, Hangup, Knock, run_house};
 use jsp_model::Config;
 use jsp_rows::{RowsHouse, replay};
 use jsp_types::{Items, Text};
@@ -91,6 +91,12 @@ impl<T: time::Clock> Gate for Watch<'_, T> {
     }
 
     fn cut(&self, _session: u64) {}
+
+    fn wants_counts(&self) -> bool {
+        false
+    }
+
+    fn counted(&self, _counts: Counts) {}
 }
 
 // Reads 0 until an answer was written, and then 1000.

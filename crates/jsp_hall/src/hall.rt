@@ -5,7 +5,7 @@ ghost use Rattle.jsp_model.specs.Lookup.{empty};
 use jsp_core::Keeping;
 use jsp_model::{Config, House, Image, Input, Settled, Step, Stopped, Why};
 use jsp_reply::Said;
-use jsp_rows::{Backlog, RowsHouse};
+use jsp_rows::{Backlog, RowsHouse, SpaceCounts, TransactionCounts};
 use jsp_types::NoMemory;
 use std::alloc::Global;
 
@@ -100,5 +100,13 @@ impl House for Hall {
 impl Backlog for Hall {
     fn waiting(&self, session: u64) -> u64 {
         self.house.waiting(session)
+    }
+
+    fn transactions(&self) -> TransactionCounts {
+        self.house.transactions()
+    }
+
+    fn counts_in(&self, space: u64) -> SpaceCounts {
+        self.house.counts_in(space)
     }
 }

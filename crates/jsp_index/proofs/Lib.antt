@@ -7,3 +7,4 @@ pub mod Revisions
 pub mod Holders
 pub mod Spaces
 pub mod Beside
+pub mod Heads

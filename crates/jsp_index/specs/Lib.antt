@@ -1,5 +1,7 @@
 pub mod Keys
 pub mod Seen
+pub mod Starts
+pub mod Passed
 pub mod Numbered
 pub mod Finding
 pub mod Holding

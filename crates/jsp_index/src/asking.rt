@@ -53,6 +53,48 @@ impl<'a> Test<Row> for Shown<'a> {
     }
 }
 
+/// Whether no transaction took the row.
+#[derive(Drop)]
+pub(crate) struct Untaken {}
+
+impl Test<Row> for Untaken {
+    ghost use Rattle.jsp_index.specs.Passed.{is_untaken};
+
+    ghost is_passed = { λ _ r. is_untaken r };
+
+    fn passes(&self, row: &Row) -> bool {
+        row.taker.is_none()
+    }
+}
+
+/// Whether no transaction wrote or took the row.
+#[derive(Drop)]
+pub(crate) struct Public {}
+
+impl Test<Row> for Public {
+    ghost use Rattle.jsp_index.specs.Passed.{is_public};
+
+    ghost is_passed = { λ _ r. is_public r };
+
+    fn passes(&self, row: &Row) -> bool {
+        row.writer.is_none() && row.taker.is_none()
+    }
+}
+
+/// Whether no transaction wrote, took or read the row.
+#[derive(Drop)]
+pub(crate) struct Free {}
+
+impl Test<Row> for Free {
+    ghost use Rattle.jsp_index.specs.Passed.{is_free};
+
+    ghost is_passed = { λ _ r. is_free r };
+
+    fn passes(&self, row: &Row) -> bool {
+        row.readers.as_slice().is_empty() && row.writer.is_none() && row.taker.is_none()
+    }
+}
+
 /// Whether the row is in a space.
 #[derive(Drop)]
 pub(crate) struct InSpace {

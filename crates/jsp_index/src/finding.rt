@@ -1,5 +1,5 @@
 //! What is found among rows by hints. Only what answers in lists takes memory.
-ghost use Rattle.std.specs.Prelude.{◌≡◌, ◌==◌, ◌&&◌, ◌||◌, ℕ, true, not, map, filter, find, option_copied, take, length, slice_get, Bool, None, IfOk};
+ghost use Rattle.std.specs.Prelude.{◌≡◌, ◌==◌, ◌&&◌, ◌||◌, ℕ, true, not, map, filter, find, option_copied, take, length, slice_get, List, Bool, None, if◌then◌else◌, IfOk};
 ghost use Rattle.std.specs.List.{list_any, list_all, last_or};
 ghost use Rattle.std.specs.Fn.{FnReturnsAt};
 ghost use Rattle.jsp_lease.specs.Due.{first_item, over_by};
@@ -7,14 +7,20 @@ ghost use Rattle.jsp_model.specs.declared.state.Row.{Row as OfRow};
 ghost use Rattle.jsp_model.specs.Lookup.{contains as has, is_caller as calls};
 ghost use Rattle.jsp_model.specs.Changes.{published};
 ghost use Rattle.jsp_table.specs.Numbers.{contains};
-ghost use Rattle.jsp_sight.specs.Rows.{offered_among, held, shows, row_end, entries_among};
+ghost use Rattle.jsp_index.specs.Passed.{may_have, AreOpen};
+ghost use Rattle.jsp_index.specs.declared.starts.Unseen.TheVariants.{Held, Hidden};
+ghost use Rattle.std.specs.Bool.{OnTrue};
+ghost use Rattle.jsp_types.specs.declared.class.Class.{Class as OfClass};
+ghost use Rattle.jsp_sight.specs.Rows.{offered, offered_among, held, shows, row_end, entries_among};
 
 use crate::asking::{ChangedBy, InConflict, Offered, OneOf, PublishedBy, Shown};
 use crate::listing::{entries_named, rows_named};
+use crate::searching::Behind;
+use crate::starts::Unseen;
 use crate::walking::{Sought, entries_found, numbers_found, walk};
 use crate::{HintedRows, NoMemory};
 use jsp_model::{Blocked, Item, MatchSet, Row};
-use jsp_sight::is_available;
+use jsp_sight::{is_available, is_take};
 use jsp_table::Numbers;
 use jsp_types::{Classes, Entry, Items};
 use std::alloc::Global;
@@ -77,9 +83,13 @@ impl HintedRows {
     {
         let templates = blocked.templates.as_slice();
         let test = Offered { classes, blocked };
+        let behind = Behind {
+            number: 0,
+            unseen: self.unseen_by(blocked),
+        };
         let row = self
             .rows
-            .first_above(classes, blocked.space, templates, 0, &test)?;
+            .first_behind(classes, blocked.space, templates, behind, &test)?;
         Some(row.number)
     }
 
@@ -96,8 +106,12 @@ impl HintedRows {
     {
         let templates = blocked.templates.as_slice();
         let test = InConflict { classes, blocked };
+        let behind = Behind {
+            number: 0,
+            unseen: Unseen::Nothing,
+        };
         self.rows
-            .first_above(classes, blocked.space, templates, 0, &test)
+            .first_behind(classes, blocked.space, templates, behind, &test)
             .is_some()
     }
 
@@ -114,6 +128,7 @@ impl HintedRows {
             classes,
             space: blocked.space,
             templates: blocked.templates.as_slice(),
+            unseen: self.unseen_by(blocked),
         };
         let test = Offered { classes, blocked };
         let most = blocked.most as usize;
@@ -129,6 +144,7 @@ impl HintedRows {
             classes,
             space: blocked.space,
             templates: blocked.templates.as_slice(),
+            unseen: self.unseen_by(blocked),
         };
         let test = Offered { classes, blocked };
         walk(&self.rows, &sought, 0, &test, most).count
@@ -158,6 +174,7 @@ impl HintedRows {
             classes,
             space: set.space,
             templates: std::slice::from_ref(&set.template),
+            unseen: self.unseen_in(set),
         };
         let test = Shown { classes, set };
         let entries = entries_found(alloc, &self.rows, &sought, set.cursor, &test, most)?;
@@ -172,6 +189,7 @@ impl HintedRows {
             classes,
             space: set.space,
             templates: std::slice::from_ref(&set.template),
+            unseen: self.unseen_in(set),
         };
         let test = Shown { classes, set };
         walk(&self.rows, &sought, set.cursor, &test, most).count
@@ -185,6 +203,7 @@ impl HintedRows {
             classes,
             space: set.space,
             templates: std::slice::from_ref(&set.template),
+            unseen: self.unseen_in(set),
         };
         let test = Shown { classes, set };
         walk(&self.rows, &sought, set.cursor, &test, most).last
@@ -248,6 +267,48 @@ impl HintedRows {
         ensures { IfOk result (λ rows. rows ≡ self.now) }
     {
         self.rows.keyed().to_items(alloc)
+    }
+}
+
+impl HintedRows {
+    /// The rows that the request can't have.
+    fn unseen_by(&self, blocked: &Blocked) -> Unseen
+        ensures { (classes : List OfClass) → AreOpen result (offered classes blocked.now) self.now }
+    {
+        self.unseen(blocked.transaction, is_take(blocked.form))
+    }
+
+    /// The rows that a match set can't show.
+    fn unseen_in(&self, set: &MatchSet) -> Unseen
+        ensures { (classes : List OfClass) → AreOpen result (shows classes set.now) self.now }
+    {
+        self.unseen(set.transaction, false)
+    }
+
+    /// The rows that a transaction, or none, can't take or read. What it holds itself it may have.
+    fn unseen(&self, transaction: Option<u64>, takes: bool) -> Unseen
+        ensures { AreOpen result (may_have takes transaction) self.now }
+    {
+        if !self.holds_none(transaction) {
+            return Unseen::Taken;
+        }
+        if takes {
+            return Unseen::Held;
+        }
+        Unseen::Hidden
+    }
+
+    /// Whether a transaction holds no row; or there is none.
+    fn holds_none(&self, transaction: Option<u64>) -> bool
+        ensures { OnTrue result ((takes : Bool) → AreOpen (if takes then Held else Hidden) (may_have takes transaction) self.now) }
+    {
+        match transaction {
+            None => true,
+            Some(x) => match self.holders.get(&x) {
+                None => true,
+                Some(_) => false,
+            },
+        }
     }
 }
 

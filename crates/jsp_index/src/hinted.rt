@@ -11,7 +11,7 @@ ghost use Rattle.jsp_sight.specs.Rows.{row_ending, with_reader, taken_row};
 ghost use Rattle.jsp_index.specs.Numbered.{AreNumbered};
 
 use crate::NoMemory;
-use crate::changing::{Abort, Commit, Reading, Release, Taking};
+use crate::changing::{Abort, Commit, Release, Taking};
 use crate::holding::{hold_all, hold_numbers};
 use crate::keyed::KeyedRows;
 use crate::revising::{remove_all, revise_all, take_all};
@@ -177,7 +177,7 @@ impl HintedRows {
         ensures err { OnErr result (self.new ≡ self.old) }
     {
         add_hint(self.alloc, &mut self.holders, x, number)?;
-        self.rows.try_change(number, &Reading { transaction: x })?;
+        self.rows.read(number, x)?;
         Ok(())
     }
 }

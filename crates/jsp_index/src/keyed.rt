@@ -1,20 +1,26 @@
 //! Rows, found by number, by what their entries hold, and by end, and counted by space.
-ghost use Rattle.std.specs.Prelude.{◌≡◌, ◌==◌, ◌++◌, [], not, if◌then◌else◌, filter, map, length, option_copied, OnOk, OnErr};
+ghost use Rattle.std.specs.Prelude.{◌≡◌, ◌==◌, ◌++◌, [], Bool, Some, not, if◌then◌else◌, filter, map, length, option_copied, OnOk, OnErr};
 ghost use Rattle.jsp_model.specs.declared.state.Row.{Row as OfRow};
-ghost use Rattle.jsp_sight.specs.Rows.{row_ending};
+ghost use Rattle.jsp_sight.specs.Rows.{row_ending, with_reader};
 ghost use Rattle.jsp_table.specs.Places.{living};
 ghost use Rattle.jsp_index.specs.Finding.{row_numbered};
 ghost use Rattle.jsp_index.specs.Numbered.{AreNumbered};
 ghost use Rattle.jsp_index.specs.Changing.{HasSameKeys};
+ghost use Rattle.jsp_index.specs.Passed.{is_open, AreListed};
+ghost use Rattle.jsp_index.specs.Keys.{row_keys};
+ghost use Rattle.jsp_keyed.specs.Finding.{HaveKey};
 
 use crate::NoMemory;
 use crate::asking::InSpace;
 use crate::by_number::Rows;
+use crate::changing::{Reading, Taking};
 use crate::counting::{count_all, make_room_for, uncount_all};
+use crate::passing::{drop_starts, pass, pass_all, put_all_above, put_number_above};
 use crate::seeing::see_all;
-use jsp_keyed::Keyed;
+use crate::starts::{Starts, Unseen, start_of};
+use jsp_keyed::{Key, Keyed};
 use jsp_model::Row;
-use jsp_table::{Change, Counts, TryChange, count_of, count_one_less, drop_count};
+use jsp_table::{Change, Counts, Numbers, count_of, count_one_less, drop_count};
 use jsp_types::{Items, Text};
 use std::alloc::Global;
 use std::collections::HashMap;
@@ -29,18 +35,29 @@ pub(crate) struct KeyedRows {
     pub(crate) seen: Items<Text>,
     /// How many rows each space has. One whose rows went keeps a count of 0 until it is cleared.
     counts: Counts,
+    seed: u64,
+    /// Up to where the rows that have a key are held by transactions.
+    starts: Starts,
+}
+
+/// What is named under a key, and the number up to which none of its rows can be had.
+#[derive(Clone, Copy)]
+pub(crate) struct Listed<'a> {
+    pub(crate) numbers: &'a Numbers,
+    pub(crate) start: u64,
 }
 
 impl Model for KeyedRows {
     ghost use Rattle.std.specs.Prelude.{List};
     ghost use Rattle.jsp_model.specs.declared.state.Row.{Row};
     ghost use Rattle.jsp_index.specs.Beside.{IsBeside};
+    ghost use Rattle.jsp_index.specs.Passed.{ArePassed};
 
     ghost Value = { List Row };
 
     ghost view = { λ k. k.rows };
 
-    ghost invariant = { λ k. IsBeside k.seen k.counts k.rows };
+    ghost invariant = { λ k. IsBeside k.seen k.counts k.rows × ArePassed k.seed k.starts k.rows };
 }
 
 impl KeyedRows {
@@ -52,6 +69,8 @@ impl KeyedRows {
             rows: Keyed::new(alloc, seed),
             seen: Items::new(alloc),
             counts: HashMap::new(alloc),
+            seed,
+            starts: HashMap::new(alloc),
         }
     }
 
@@ -60,6 +79,17 @@ impl KeyedRows {
         ensures { result.now ≡ self.now }
     {
         &self.rows
+    }
+
+    /// What is named under a key.
+    pub(crate) fn listed<Q: Key>(&self, key: &Q, unseen: Unseen) -> Listed<'_>
+        ensures { (kind : OfRow → Bool) → HaveKey row_keys (Q.key_by key.now) kind → AreListed kind (is_open unseen) result.numbers.now result.start self.now }
+    {
+        let start = start_of(&self.starts, key.key(self.seed));
+        Listed {
+            numbers: self.rows.numbers_under(key),
+            start: start.number(unseen),
+        }
     }
 
     /// Adds rows at the end, whole or not at all. Where memory is refused they stay with the caller.
@@ -71,13 +101,16 @@ impl KeyedRows {
     {
         see_all(&mut self.seen, rows)?;
         make_room_for(&mut self.counts, rows)?;
+        put_all_above(&mut self.starts, self.seed, rows);
         // Which says how many rows there are at most, so that more can be counted.
         let _ = self.rows.places();
         count_all(&mut self.counts, rows);
+        let (first, hidden) = hidden_among(rows);
         if let Err(e) = self.rows.append(rows) {
             uncount_all(&mut self.counts, rows);
             return Err(e);
         }
+        pass_all(&mut self.starts, &self.rows, self.seed, first, hidden);
         Ok(())
     }
 
@@ -108,6 +141,7 @@ impl KeyedRows {
             return;
         };
         count_one_less(&mut self.counts, row.space);
+        drop_starts(&mut self.starts, &self.rows, self.seed, row);
         self.rows.remove(number);
     }
 
@@ -117,6 +151,7 @@ impl KeyedRows {
     {
         self.rows.remove_all(&InSpace { space });
         drop_count(&mut self.counts, space);
+        self.starts.clear();
     }
 
     /// Changes the row of this number, which keeps its number, space, entry and end. Takes no memory.
@@ -124,20 +159,27 @@ impl KeyedRows {
         requires { (r : OfRow) → HasSameKeys r (C.changed change.now r) }
         ensures { self.new ≡ map (λ r. if r.number == number then C.changed change.now r else r) self.old }
     {
+        put_number_above(&mut self.starts, &self.rows, self.seed, number);
         self.rows.change(number, change);
     }
 
-    /// Changes the row of this number, which keeps its number, space, entry and end, whole or not at all.
-    pub(crate) fn try_change<C: TryChange<Row>>(
-        &mut self,
-        number: u64,
-        change: &C,
-    ) -> Result<(), NoMemory>
-        requires { (r : OfRow) → HasSameKeys r (C.changed change.now r) }
-        ensures ok { OnOk result (self.new ≡ map (λ r. if r.number == number then C.changed change.now r else r) self.old) }
+    /// The transaction takes the row of this number. That it is passed over from here on may take memory,
+    /// and is left where memory is refused.
+    pub(crate) fn take(&mut self, number: u64, x: u64)
+        ensures { self.new ≡ map (λ (r : OfRow). if r.number == number then record r { taker = Some x } else r) self.old }
+    {
+        self.rows.change(number, &Taking { transaction: x });
+        pass(&mut self.starts, &self.rows, self.seed, number);
+    }
+
+    /// The transaction reads the row of this number, whole or not at all. That it is passed over from here
+    /// on may take memory, and is left where memory is refused.
+    pub(crate) fn read(&mut self, number: u64, x: u64) -> Result<(), NoMemory>
+        ensures ok { OnOk result (self.new ≡ map (λ r. if r.number == number then with_reader x r else r) self.old) }
         ensures err { OnErr result (self.new ≡ self.old) }
     {
-        self.rows.try_change(number, change)?;
+        self.rows.try_change(number, &Reading { transaction: x })?;
+        pass(&mut self.starts, &self.rows, self.seed, number);
         Ok(())
     }
 
@@ -154,6 +196,15 @@ impl KeyedRows {
         ensures numbered { AreNumbered self.now }
     {
         self.rows.places()
+    }
+}
+
+/// The number of the first of these rows, and how many there are, if a transaction wrote it. What is
+/// written together is written by one.
+fn hidden_among(rows: &[Row]) -> (u64, usize) {
+    match rows {
+        [first, ..] if first.writer.is_some() => (first.number, rows.len()),
+        _ => (0, 0),
     }
 }
 

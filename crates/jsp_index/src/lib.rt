@@ -20,10 +20,12 @@ mod hinted;
 mod holding;
 mod keyed;
 mod listing;
+mod passing;
 mod revising;
 mod searching;
 mod seeing;
 mod seeking;
+mod starts;
 mod walking;
 
 pub use hinted::HintedRows;

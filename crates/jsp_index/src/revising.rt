@@ -7,7 +7,7 @@ ghost use Rattle.jsp_sight.specs.Rows.{taken_row};
 ghost use Rattle.jsp_table.specs.Numbers.{contains};
 ghost use Rattle.jsp_index.specs.Changing.{HasSameKeys, revised_by};
 
-use crate::changing::{Revision, Taking};
+use crate::changing::Revision;
 use crate::keyed::KeyedRows;
 use jsp_model::Row;
 use jsp_table::{Change, Numbers};
@@ -61,6 +61,6 @@ pub(crate) fn take_all(rows: &mut KeyedRows, numbers: &[u64], x: u64)
     ensures { rows.new ≡ map (taken_row x numbers.now) rows.old }
 {
     'numbers: for number in numbers {
-        rows.change(*number, &Taking { transaction: x });
+        rows.take(*number, x);
     }
 }

@@ -4,20 +4,25 @@ ghost use Rattle.std.specs.List.{last_or};
 ghost use Rattle.jsp_model.specs.declared.state.Row.{Row as OfRow};
 ghost use Rattle.jsp_index.specs.Finding.{is_next, is_asked};
 ghost use Rattle.jsp_index.specs.Numbered.{AreNumbered};
+ghost use Rattle.jsp_index.specs.Passed.{AreOpen};
 
 use crate::NoMemory;
 use crate::keyed::KeyedRows;
+use crate::searching::Behind;
+use crate::starts::Unseen;
 use jsp_model::Row;
 use jsp_table::Test;
 use jsp_types::{Classes, Entry, Items, Template};
 use std::alloc::Global;
 
-/// Where a walk looks: in a space, for rows that are like one of the templates.
+/// Where a walk looks: in a space, for rows that are like one of the templates and aren't of those that it
+/// can't have.
 #[derive(Drop)]
 pub(crate) struct Sought<'a> {
     pub(crate) classes: &'a Classes,
     pub(crate) space: u64,
     pub(crate) templates: &'a [Template],
+    pub(crate) unseen: Unseen,
 }
 
 /// The numbers of the first rows above one that pass, so many.
@@ -29,7 +34,8 @@ pub(crate) fn numbers_found<P: Test<Row>>(
     test: &P,
     most: usize,
 ) -> Result<Items<u64>, NoMemory>
-    requires { (r : OfRow) → P.is_passed test.now r ≡ true → is_asked sought.now.classes.now sought.now.space sought.now.templates.now r ≡ true }
+    requires asked { (r : OfRow) → P.is_passed test.now r ≡ true → is_asked sought.now.classes.now sought.now.space sought.now.templates.now r ≡ true }
+    requires had { AreOpen sought.now.unseen (P.is_passed test.now) rows.now }
     ensures found { IfOk result (λ ns. ns ≡ map (λ r. r.number) (take most (filter (is_next (P.is_passed test.now) from) rows.now))) }
     ensures numbered { AreNumbered rows.now }
 {
@@ -38,7 +44,11 @@ pub(crate) fn numbers_found<P: Test<Row>>(
     let mut after = from;
     'rows: for _count in 0..most {
         let (classes, space, templates) = (sought.classes, sought.space, sought.templates);
-        let Some(row) = rows.first_above(classes, space, templates, after, test) else {
+        let behind = Behind {
+            number: after,
+            unseen: sought.unseen,
+        };
+        let Some(row) = rows.first_behind(classes, space, templates, behind, test) else {
             return Ok(numbers);
         };
         numbers.push(row.number)?;
@@ -56,7 +66,8 @@ pub(crate) fn entries_found<P: Test<Row>>(
     test: &P,
     most: usize,
 ) -> Result<Items<Entry>, NoMemory>
-    requires { (r : OfRow) → P.is_passed test.now r ≡ true → is_asked sought.now.classes.now sought.now.space sought.now.templates.now r ≡ true }
+    requires asked { (r : OfRow) → P.is_passed test.now r ≡ true → is_asked sought.now.classes.now sought.now.space sought.now.templates.now r ≡ true }
+    requires had { AreOpen sought.now.unseen (P.is_passed test.now) rows.now }
     ensures found { IfOk result (λ es. es ≡ map (λ r. r.entry) (take most (filter (is_next (P.is_passed test.now) from) rows.now))) }
     ensures numbered { AreNumbered rows.now }
 {
@@ -65,7 +76,11 @@ pub(crate) fn entries_found<P: Test<Row>>(
     let mut after = from;
     'rows: for _count in 0..most {
         let (classes, space, templates) = (sought.classes, sought.space, sought.templates);
-        let Some(row) = rows.first_above(classes, space, templates, after, test) else {
+        let behind = Behind {
+            number: after,
+            unseen: sought.unseen,
+        };
+        let Some(row) = rows.first_behind(classes, space, templates, behind, test) else {
             return Ok(entries);
         };
         add_entry(&mut entries, row)?;
@@ -97,7 +112,8 @@ pub(crate) fn walk<P: Test<Row>>(
     test: &P,
     most: usize,
 ) -> Walked
-    requires { (r : OfRow) → P.is_passed test.now r ≡ true → is_asked sought.now.classes.now sought.now.space sought.now.templates.now r ≡ true }
+    requires asked { (r : OfRow) → P.is_passed test.now r ≡ true → is_asked sought.now.classes.now sought.now.space sought.now.templates.now r ≡ true }
+    requires had { AreOpen sought.now.unseen (P.is_passed test.now) rows.now }
     ensures count { result.count ≡ length (take most (filter (is_next (P.is_passed test.now) from) rows.now)) }
     ensures last { result.last ≡ last_or None (map (λ r. r.number) (take most (filter (is_next (P.is_passed test.now) from) rows.now))) }
     ensures numbered { AreNumbered rows.now }
@@ -107,7 +123,11 @@ pub(crate) fn walk<P: Test<Row>>(
     let mut after = from;
     'rows: for count in 0..most {
         let (classes, space, templates) = (sought.classes, sought.space, sought.templates);
-        let Some(row) = rows.first_above(classes, space, templates, after, test) else {
+        let behind = Behind {
+            number: after,
+            unseen: sought.unseen,
+        };
+        let Some(row) = rows.first_behind(classes, space, templates, behind, test) else {
             return Walked { count, last };
         };
         last = Some(row.number);

@@ -1,5 +1,5 @@
 //! The history that one lock keeps.
-ghost use Rattle.std.specs.Prelude.{◌≡◌, ◌≤◌, ◌+◌, ◌^◌, true, IfOk, length};
+ghost use Rattle.std.specs.Prelude.{◌≡◌, ◌==◌, ◌≤◌, ◌+◌, ◌^◌, true, IfOk, filter, length};
 ghost use Rattle.jsp_model.specs.Lookup.{empty, is_open};
 ghost use Rattle.jsp_model.specs.Outboxes.{outbox_of};
 ghost use Rattle.jsp_model.specs.House.{Makes, shuts, next_waiting, awaits_decision};
@@ -8,7 +8,7 @@ ghost use Rattle.jsp_kept.specs.Calls.{KeepsEra, KeepsAsks, KeepsOuts, Seals};
 
 use crate::aside::{free_some, set_aside};
 use jsp_model::{Config, House, Step};
-use jsp_rows::Backlog;
+use jsp_rows::{Backlog, SpaceCounts, TransactionCounts};
 use jsp_types::{NoMemory, Text};
 use std::alloc::Global;
 use std::marker::Model;
@@ -35,6 +35,8 @@ pub struct Kept<H: House, A: Ledger, O: Ledger> {
     /// The length at which the era is full: a Shut has a place beside the others.
     pub(crate) limit: u64,
     pub(crate) is_sealed: bool,
+    /// How many eras were sealed, which no contract speaks of.
+    pub(crate) seals: u64,
 }
 
 impl<H: House, A: Ledger, O: Ledger> Model for Kept<H, A, O> {
@@ -128,6 +130,7 @@ impl<H: House, A: Ledger, O: Ledger> Kept<H, A, O> {
             era,
             limit: era,
             is_sealed: false,
+            seals: 0,
         })
     }
 
@@ -188,6 +191,25 @@ impl<H: House, A: Ledger, O: Ledger> Kept<H, A, O> {
         self.is_sealed
     }
 
+    /// How many eras were sealed.
+    pub fn seals(&self) -> u64 {
+        self.seals
+    }
+
+    /// How many requests and faults all sessions made.
+    pub fn requests(&self) -> u64
+        ensures { result ≡ self.now.asks_book }
+    {
+        self.asks_sum
+    }
+
+    /// How many answers and events were taken for all sessions.
+    pub fn answers(&self) -> u64
+        ensures { result ≡ self.now.outs_book }
+    {
+        self.outs_sum
+    }
+
     /// Closes the session, if it is open. Takes no memory: the log has a spare place for each open
     /// session.
     pub fn shut(&mut self, session: u64)
@@ -223,6 +245,7 @@ impl<H: House, A: Ledger, O: Ledger> Kept<H, A, O> {
     {
         set_aside(&mut self.log, &mut self.gone);
         self.is_sealed = true;
+        self.seals = self.seals.saturating_add(1);
         self.limit = self.era;
         self.house.bound(self.limit);
     }
@@ -234,6 +257,24 @@ impl<H: Backlog, A: Ledger, O: Ledger> Kept<H, A, O> {
         ensures { result ≡ length (outbox_of self.now.state session) }
     {
         self.house.waiting(session)
+    }
+
+    /// How many transactions there are, and how many of them vote.
+    pub fn transactions(&self) -> TransactionCounts
+        ensures living { result.living ≡ length self.now.state.transactions }
+        ensures voting { result.voting ≡ length self.now.state.commits }
+    {
+        self.house.transactions()
+    }
+
+    /// What stands at a space.
+    pub fn counts_in(&self, space: u64) -> SpaceCounts
+        ensures rows { result.rows ≡ length (filter (λ r. r.space == space) self.now.state.rows) }
+        ensures waiting { result.waiting ≡ length (filter (λ b. b.space == space) self.now.state.blocked) }
+        ensures registrations { result.registrations ≡ length (filter (λ r. r.space == space) self.now.state.registrations) }
+        ensures match_sets { result.match_sets ≡ length (filter (λ m. m.space == space) self.now.state.sets) }
+    {
+        self.house.counts_in(space)
     }
 }
 

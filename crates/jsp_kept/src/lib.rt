@@ -20,6 +20,8 @@ mod turns;
 
 pub use jsp_drive::LineInput;
 // What is asked of a history that has ended, so that its callers name one crate.
-pub use jsp_rows::{Backlog, ReplayFault, Replayed, is_open, is_quiet, replay};
+pub use jsp_rows::{
+    Backlog, ReplayFault, Replayed, SpaceCounts, TransactionCounts, is_open, is_quiet, replay,
+};
 pub use kept::{Era, Kept};
 pub use seats::{AskSeat, OutSeat, Seat};

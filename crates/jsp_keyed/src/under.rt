@@ -1,6 +1,7 @@
 //! What is named under a key. Nothing here takes memory.
-ghost use Rattle.std.specs.Prelude.{◌≡◌, ◌<◌, Bool, find, option_copied};
+ghost use Rattle.std.specs.Prelude.{◌≡◌, ◌<◌, Bool, find, option_copied, IfSome};
 ghost use Rattle.std.specs.List.{AllByRecursion};
+ghost use Rattle.jsp_table.specs.Numbers.{contains};
 ghost use Rattle.jsp_table.specs.Finding.{is_hit, AreNamed, AreNumbered};
 ghost use Rattle.jsp_keyed.specs.Finding.{is_next, HaveKey, IsLeast};
 
@@ -16,6 +17,20 @@ impl<T, K: Numbering<T> + Keying<T>> Keyed<T, K> {
         match self.hints.get(&key) {
             None => &self.none,
             Some(numbers) => numbers,
+        }
+    }
+
+    /// Numbers, among which are those of all things that have the key by this seed. Nothing where
+    /// the keys are made by another seed.
+    pub fn numbers_at(&self, seed: u64, key: u64) -> Option<&Numbers>
+        ensures { IfSome (option_copied result) (λ numbers. AreNamed K.number_of (λ x. contains (K.keys_of seed x) key) numbers self.now) }
+    {
+        if seed != self.seed {
+            return None;
+        }
+        match self.hints.get(&key) {
+            None => Some(&self.none),
+            Some(numbers) => Some(numbers),
         }
     }
 

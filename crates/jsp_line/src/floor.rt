@@ -4,10 +4,11 @@ ghost use Rattle.jsp_drive.specs.Line.{is_line_input};
 ghost use Rattle.jsp_line.specs.Seats.{Asks, IsSeated, taking};
 ghost use Rattle.jsp_line.specs.Halves.{said_in};
 
+use crate::counts::Counts;
 use jsp_drive::LineInput;
 use jsp_kept::{AskSeat, Backlog, Kept, OutSeat};
 use jsp_model::{Settled, Stopped};
-use jsp_reply::Said;
+use jsp_reply::{Refusal, Reply, Said};
 use jsp_types::NoMemory;
 use std::alloc::Global;
 use std::sync::atomic::{AtomicBool, AtomicU64, Ordering};
@@ -18,6 +19,9 @@ use std::{hint, time};
 
 /// Most answers that one hold of the lock takes.
 const MOST: u64 = 16;
+
+/// The greatest number of a refusal.
+const LAST_REFUSAL: usize = 22;
 
 /// How often the lock is tried before a thread sleeps for it.
 const TRIES: u32 = 100;
@@ -44,6 +48,10 @@ pub struct Floor<H: Backlog, A: Ledger, O: Ledger> {
     most_waiting: u64,
     /// Whether all lines have ended. It is set under the lock.
     ended: AtomicBool,
+    /// How many refusals of each number were taken: the number is the place. They are set under the lock.
+    refusals: Vec<AtomicU64>,
+    /// How many spaces there are.
+    spaces: usize,
     ghost some_lines: { 0 < vec_len lines },
 }
 
@@ -143,6 +151,7 @@ impl<H: Backlog, A: Ledger, O: Ledger> Floor<H, A, O> {
         most_bytes: u64,
         most_waiting: u64,
     ) -> Result<Floor<H, A, O>, NoMemory> {
+        let spaces = kept.spaces().len();
         Ok(Floor {
             kept: Mutex::new(kept),
             lines: signals(alloc, lines)?,
@@ -152,6 +161,8 @@ impl<H: Backlog, A: Ledger, O: Ledger> Floor<H, A, O> {
             most_bytes,
             most_waiting,
             ended: AtomicBool::new(false),
+            refusals: zeros(alloc)?,
+            spaces,
         })
     }
 
@@ -227,6 +238,47 @@ impl<H: Backlog, A: Ledger, O: Ledger> Floor<H, A, O> {
         kept.waiting(session) > self.most_waiting && kept.is_open(session)
     }
 
+    // Counts the refusals among answers that were taken. The lock is held.
+    fn note_refusals(&self, said: &Result<Vec<Said>, Stopped>) {
+        let Ok(said) = said else {
+            return;
+        };
+        for one in said.as_slice() {
+            if let Reply::Refused { refusal, .. } = one.reply() {
+                self.note_refusal(*refusal);
+            }
+        }
+    }
+
+    fn note_refusal(&self, refusal: Refusal) {
+        if let Some(count) = self.refusals.get(usize::from(refusal.number())) {
+            let so_far = count.load(Ordering::SeqCst);
+            count.store(so_far.saturating_add(1), Ordering::SeqCst);
+        }
+    }
+
+    /// Counts what stands in the house, in one hold of the lock, for which all memory was taken before.
+    pub(crate) fn count<T: Wait>(&self, rt: &T, alloc: Global) -> Result<Counts, NoMemory> {
+        let mut refusals = Vec::with_capacity(alloc, self.refusals.len())?;
+        let mut spaces = Vec::with_capacity(alloc, self.spaces)?;
+        let kept = self.lock(rt);
+        for count in self.refusals.as_slice() {
+            refusals.push(count.load(Ordering::SeqCst))?;
+        }
+        for place in 0..self.spaces {
+            spaces.push(kept.counts_in(place as u64))?;
+        }
+        Ok(Counts {
+            lines: 0,
+            seals: kept.seals(),
+            requests: kept.requests(),
+            answers: kept.answers(),
+            refusals,
+            transactions: kept.transactions(),
+            spaces,
+        })
+    }
+
     /// Opens a session, and answers its two seats.
     pub fn begin<T: Wait>(&self, rt: &T) -> Result<(AskSeat<A>, OutSeat<O>), Stopped>
         ensures { IfOk result (λ s. IsSeated s.0 s.1) }
@@ -256,6 +308,7 @@ impl<H: Backlog, A: Ledger, O: Ledger> Floor<H, A, O> {
         self.weigh(&mut *kept, bytes);
         kept.free_some();
         let mut held = hold(&mut *kept, asks, self.later(time), given, outs);
+        self.note_refusals(&held.said);
         held.shut = self.wake_lines(rt, &mut *kept, None);
         if held.acted.is_err() {
             self.settling.notify_all();
@@ -276,6 +329,7 @@ impl<H: Backlog, A: Ledger, O: Ledger> Floor<H, A, O> {
         let mut kept = self.lock(rt);
         self.weigh(&mut *kept, bytes);
         let said = take_from(&mut *kept, outs);
+        self.note_refusals(&said);
         (said, kept.is_sealed())
     }
 
@@ -355,9 +409,20 @@ impl<H: Backlog, A: Ledger, O: Ledger> Floor<H, A, O> {
             most_bytes: _,
             most_waiting: _,
             ended: _,
+            refusals: _,
+            spaces: _,
         } = self;
         kept.into_inner()
     }
+}
+
+// A count for each number of a refusal, from 0 on.
+fn zeros(alloc: Global) -> Result<Vec<AtomicU64>, NoMemory> {
+    let mut counts = Vec::new(alloc);
+    for _ in 0..=LAST_REFUSAL {
+        counts.push(AtomicU64::new(0))?;
+    }
+    Ok(counts)
 }
 
 // A signal for each line, and one at least.

@@ -1,5 +1,7 @@
 //! What lines are given from outside: what tells the time, and what is called at each frame and answer.
 
+use crate::counts::Counts;
+
 /// Called at each frame and answer of a line, and at its end, with no lock held. A server's gate does nothing; a
 /// test's may hold a line until something else has happened.
 pub trait Gate {
@@ -11,6 +13,12 @@ pub trait Gate {
 
     /// After a session was shut since its client reads no answers. Its connection is to be ended.
     fn cut(&self, session: u64);
+
+    /// Whether somebody wants to know how much stands in the house. Then it is counted, and told once.
+    fn wants_counts(&self) -> bool;
+
+    /// How much stands in the house, which was wanted.
+    fn counted(&self, counts: Counts);
 }
 
 /// What tells the time, in milliseconds.

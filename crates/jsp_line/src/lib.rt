@@ -9,6 +9,7 @@
 
 mod answer;
 mod counted;
+mod counts;
 mod floor;
 mod gate;
 mod half;
@@ -21,10 +22,12 @@ mod threads;
 mod transcript;
 
 pub use counted::Counted;
+pub use counts::Counts;
 pub use floor::Floor;
 pub use gate::{Clock, Gate};
 pub use half::{Health, OutDone, OutHalf, Start};
 pub use hangup::Hangup;
+pub use jsp_kept::{SpaceCounts, TransactionCounts};
 pub use line::LineDone;
 pub use read::ReadDone;
 pub use shared::Shared;

@@ -25,6 +25,7 @@ impl<H: Backlog, A: Ledger, O: Ledger, G: Gate, C: Clock, T: Wait + time::Clock>
     /// that finds no memory is taken again.
     pub fn settle_worker(&self) -> Option<Why> {
         for _ in self.rt.forever() {
+            self.count_where_wanted();
             let turned = self.floor.settle(self.rt, self.clock.now(), None);
             self.cut(turned.shut);
             match turned.settled {
@@ -38,6 +39,15 @@ impl<H: Backlog, A: Ledger, O: Ledger, G: Gate, C: Clock, T: Wait + time::Clock>
             }
         }
         None
+    }
+
+    // Where there is no memory to count, it is tried again.
+    fn count_where_wanted(&self) {
+        if self.gate.wants_counts() {
+            if let Ok(counts) = self.floor.count(self.rt, self.alloc) {
+                self.gate.counted(counts);
+            }
+        }
     }
 
     /// Takes the turns of transactions that vote, each in a hold of its own, until none does, and writes to the line of

@@ -10,8 +10,8 @@ ghost use Rattle.jsp_keyed.specs.Changing.{HasSameKeys, HasOnlyNewEnd};
 use crate::numbered::{Any, HasNumber, NumberedAnd, one_passing};
 use crate::reading::read_one;
 use crate::scanned::{
-    any_passes, change_passing, copies, drop_passing, first_over, first_passing, read_passing,
-    try_change_passing,
+    any_passes, change_passing, copies, count_filled, count_passing, drop_passing, first_over,
+    first_passing, read_passing, try_change_passing,
 };
 use crate::{NoMemory, Reading};
 use jsp_keyed::{Keyed, Keying, Keys};
@@ -207,6 +207,27 @@ impl<T: Drop, K: Numbering<T> + Keying<T>> IndexedList<T, K> {
         match &self.kept {
             Kept::Scanned(things) => count <= things.len(),
             Kept::Keyed(things) => things.has_at_least(count),
+        }
+    }
+
+    /// How many there are.
+    pub fn len(&self) -> usize
+        ensures { result ≡ length self.now }
+    {
+        match &self.kept {
+            Kept::Scanned(things) => things.len(),
+            Kept::Keyed(things) => count_filled(things.places()),
+        }
+    }
+
+    /// How many pass the test, which only things pass that have one of the keys that are sought.
+    pub fn count<P: Test<T> + Keys>(&self, test: &P) -> usize
+        requires { (seed : ℕ) (x : T) → P.is_passed test.now x ≡ true → is_sought (P.sought test.now seed) (K.keys_of seed x) ≡ true }
+        ensures { result ≡ length (filter (P.is_passed test.now) self.now) }
+    {
+        match &self.kept {
+            Kept::Scanned(things) => count_passing(things, test),
+            Kept::Keyed(things) => things.count(test),
         }
     }
 

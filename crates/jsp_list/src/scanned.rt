@@ -1,5 +1,5 @@
 //! Things in a plain list, each of which is looked at.
-ghost use Rattle.std.specs.Prelude.{◌≡◌, ◌≤◌, ◌++◌, not, map, filter, find, length, take, drop, option_copied, IfOk, OnOk, OnErr};
+ghost use Rattle.std.specs.Prelude.{◌≡◌, ◌≤◌, ◌++◌, not, map, filter, find, is_some, length, take, drop, option_copied, IfOk, OnOk, OnErr};
 ghost use Rattle.std.specs.List.{list_any};
 ghost use Rattle.jsp_lease.specs.Due.{first_item, over_by};
 ghost use Rattle.jsp_keyed.specs.Kept.{item_of};
@@ -112,6 +112,20 @@ pub(crate) fn read_passing<T, P: Test<T>, R: Reading<T>>(
 {
     let passing = things.iter().filter(|thing| test.passes(thing));
     passing.map(|thing| reading.read(thing)).collect(alloc)
+}
+
+/// How many pass.
+pub(crate) fn count_passing<T, P: Test<T>>(things: &[T], test: &P) -> usize
+    ensures { result ≡ length (filter (P.is_passed test.now) things.now) }
+{
+    things.iter().filter(|thing| test.passes(thing)).count()
+}
+
+/// How many of these places aren't empty.
+pub(crate) fn count_filled<T>(places: &[Option<T>]) -> usize
+    ensures { result ≡ length (filter is_some places.now) }
+{
+    places.iter().filter(|place| place.is_some()).count()
 }
 
 /// Whether one passes.

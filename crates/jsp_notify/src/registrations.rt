@@ -11,7 +11,7 @@ use crate::finding::spaces_of;
 use crate::hinted::HintedRegistrations;
 use crate::owing::{forgive_each, owe_each};
 use crate::scanned::{
-    any_numbered, copies_of, drop_at, drop_numbered, drop_of, drop_under, extend_each,
+    any_numbered, copies_of, count_at, drop_at, drop_numbered, drop_of, drop_under, extend_each,
     find_numbered, first_over, first_that_is_owed, spaces_among, tell_each,
 };
 use jsp_model::{Item, Registration, Row};
@@ -252,6 +252,16 @@ impl Registrations {
         match &self.kept {
             Kept::Scanned(registrations) => count <= registrations.len(),
             Kept::Hinted(registrations) => registrations.found().has_at_least(count),
+        }
+    }
+
+    /// How many there are at a space.
+    pub fn count_in(&self, space: u64) -> usize
+        ensures { result ≡ length (filter (λ r. r.space == space) self.now) }
+    {
+        match &self.kept {
+            Kept::Scanned(registrations) => count_at(registrations, space),
+            Kept::Hinted(registrations) => registrations.found().count(&At { space }),
         }
     }
 

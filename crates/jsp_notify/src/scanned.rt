@@ -79,6 +79,12 @@ pub(crate) fn find_numbered(registrations: &[Registration], number: u64) -> Opti
     registrations.iter().find(|r| r.number == number)
 }
 
+pub(crate) fn count_at(registrations: &[Registration], space: u64) -> usize
+    ensures { result ≡ length (filter (λ r. r.space == space) registrations.now) }
+{
+    registrations.iter().filter(|r| r.space == space).count()
+}
+
 pub(crate) fn first_that_is_owed(
     registrations: &[Registration],
     space: u64,

@@ -4,7 +4,7 @@ use clap::{Arg, ArgAction, Command};
 use std::alloc::{AllocError, Global};
 
 /// The version, as CHANGELOG.md has it.
-const VERSION: &str = "0.1.0";
+pub(crate) const VERSION: &str = "0.1.0";
 
 /// The subcommand that serves clients.
 pub(crate) const LISTEN: &str = "listen";
@@ -41,6 +41,9 @@ pub(crate) const IDLE: &str = "idle";
 
 /// The id of the flag that has standard input end the server.
 pub(crate) const UNTIL_INPUT: &str = "until-input";
+
+/// The id of the address at which the status is shown.
+pub(crate) const STATUS: &str = "status";
 
 /// The id of the most bytes of an era.
 pub(crate) const ERA_BYTES: &str = "era-bytes";
@@ -144,6 +147,9 @@ fn listen<'a>(alloc: Global) -> Result<Command<'a>, AllocError> {
         .value_name("N")
         .help("Closes a connection for which more answers and events wait, unread [default: 65536]")
         .value_parser(ValueParser::unsigned(1, MOST_BACKLOG));
+    let status = Arg::new(alloc, STATUS).long(STATUS).value_name("ADDR").help(
+        "Shows its status there to a browser, and as JSON at /status.json [default: nowhere]",
+    );
     let address = Arg::new(alloc, ADDRESS)
         .help("Where to listen, as 127.0.0.1:7070; port 0 takes a free one")
         .required(true);
@@ -156,6 +162,7 @@ fn listen<'a>(alloc: Global) -> Result<Command<'a>, AllocError> {
         .arg(era_bytes)?
         .arg(backlog)?
         .arg(until_input)?
+        .arg(status)?
         .arg(address)?
         .arg(names(alloc))
 }

@@ -18,6 +18,8 @@ pub(crate) enum Fault {
     NoMemory,
     #[error("cannot listen: {0}")]
     Listen(io::Error),
+    #[error("cannot show a status: {0}")]
+    Show(io::Error),
     #[error("cannot write")]
     Write,
     #[error("cannot serve")]
@@ -28,6 +30,8 @@ pub(crate) enum Fault {
     Shell(ShellFault),
     #[error("cannot read standard input in a thread")]
     Spawn,
+    #[error("cannot show a status in a thread")]
+    SpawnShow,
 }
 
 impl Fault {
@@ -39,10 +43,12 @@ impl Fault {
             Fault::Audit => 3,
             Fault::NoMemory
             | Fault::Listen(_)
+            | Fault::Show(_)
             | Fault::Write
             | Fault::Serve
             | Fault::Shell(_)
-            | Fault::Spawn => 1,
+            | Fault::Spawn
+            | Fault::SpawnShow => 1,
         })
     }
 }

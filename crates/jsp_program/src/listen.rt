@@ -2,12 +2,12 @@
 ghost use Rattle.std.specs.Prelude.{◌≤◌};
 
 use crate::arguments::{
-    ADDRESS, BACKLOG, CONNECTIONS, ERA, ERA_BYTES, IDLE, LINES, LONGEST_ERA, MOST_LINES,
-    UNTIL_INPUT, USUAL_BACKLOG, USUAL_CONNECTIONS, USUAL_ERA, USUAL_ERA_BYTES,
+    ADDRESS, BACKLOG, CONNECTIONS, ERA, ERA_BYTES, IDLE, LINES, LONGEST_ERA, MOST_LINES, STATUS,
+    UNTIL_INPUT, USUAL_BACKLOG, USUAL_CONNECTIONS, USUAL_ERA, USUAL_ERA_BYTES, VERSION,
 };
 use crate::fault::Fault;
 use clap::ArgMatches;
-use jsp_serve::{Bounds, Closed, Config, Service, Stop, serve};
+use jsp_serve::{Board, Bounds, Closed, Config, Service, Stop, serve, show_status};
 use std::io::{self, ErrorKind, Read, Stdin, Write};
 use std::net::{Net, SocketAddr, TcpListener, TcpStream};
 use std::process::ExitCode;
@@ -28,7 +28,16 @@ pub(crate) struct Server {
     stop: Arc<Stop>,
     /// Whether standard input ends it.
     until_input: bool,
+    /// What shows its status, if anything is to.
+    window: Option<Window>,
     ghost within: { (1 ≤ service.bounds.era) × (service.bounds.era ≤ 16777216) },
+}
+
+/// Where a server shows its status.
+#[derive(Drop)]
+pub(crate) struct Window {
+    listener: Arc<TcpListener>,
+    board: Arc<Board>,
 }
 
 /// How a server is ended in order from outside.
@@ -59,6 +68,7 @@ impl Server {
             service: service(given),
             stop,
             until_input: given.get_flag(UNTIL_INPUT),
+            window: Window::open(rt, given)?,
         })
     }
 
@@ -75,6 +85,14 @@ impl Server {
         Ok(Some(End { address, stop }))
     }
 
+    /// What shows its status, where it is to be shown.
+    pub(crate) fn window(&self) -> Result<Option<Window>, Fault> {
+        match &self.window {
+            Some(window) => Ok(Some(window.share()?)),
+            None => Ok(None),
+        }
+    }
+
     /// Says where it listens, and serves. At its end it says on standard error what was compared.
     pub(crate) fn serve<
         R: AllocGlobal + Print + Eprint + Clock + RandomSource + Threads + Wait + Sync,
@@ -85,15 +103,61 @@ impl Server {
             service,
             stop,
             until_input: _,
+            window,
         } = self;
-        if say_where(rt, &listener).is_err() {
+        if say_where(rt, &listener, &window).is_err() {
             return Err(Fault::Write);
         }
-        let closed = serve(rt, rt.alloc(), listener, &config, service, &*stop)?;
+        let board = window.as_ref().map(|window| &*window.board);
+        let closed = serve(
+            rt,
+            rt.alloc(),
+            listener,
+            &config,
+            service,
+            &*stop,
+            VERSION,
+            board,
+        )?;
         match say_compared(rt, &closed) {
             Ok(()) => Ok(ExitCode::SUCCESS),
             Err(_) => Err(Fault::Write),
         }
+    }
+}
+
+impl Window {
+    /// Listens where the status is to be shown, if it is.
+    fn open<R: AllocGlobal + Net<Listener = TcpListener, Stream = TcpStream>>(
+        rt: &R,
+        given: &ArgMatches<'_>,
+    ) -> Result<Option<Window>, Fault> {
+        let Some(address) = given.get_str(STATUS) else {
+            return Ok(None);
+        };
+        let listener = match TcpListener::bind(rt, address) {
+            Ok(listener) => listener,
+            Err(error) => return Err(Fault::Show(error)),
+        };
+        let Ok(listener) = Arc::new(rt.alloc(), listener) else {
+            return Err(Fault::NoMemory);
+        };
+        let Ok(board) = Arc::new(rt.alloc(), Board::new()) else {
+            return Err(Fault::NoMemory);
+        };
+        Ok(Some(Window { listener, board }))
+    }
+
+    fn share(&self) -> Result<Window, Fault> {
+        Ok(Window {
+            listener: Arc::try_clone(&self.listener)?,
+            board: Arc::try_clone(&self.board)?,
+        })
+    }
+
+    /// Shows the status to all who connect.
+    pub(crate) fn show<R: AllocGlobal + Clock + RandomSource + Wait>(self, rt: &R) {
+        show_status(rt, rt.alloc(), &*self.listener, &*self.board);
     }
 }
 
@@ -142,8 +206,11 @@ fn wait_for_line<R: Wait>(rt: &R, input: Stdin) {
 }
 
 /// Says where it listens: the address that was bound, with the port that was found.
-fn say_where(rt: &impl Print, listener: &TcpListener) -> io::Result<()> {
+fn say_where(rt: &impl Print, listener: &TcpListener, window: &Option<Window>) -> io::Result<()> {
     println!(rt; "listening {}", listener.local_addr()?)?;
+    if let Some(window) = window {
+        println!(rt; "status {}", window.listener.local_addr()?)?;
+    }
     io::writer(rt).flush()
 }
 

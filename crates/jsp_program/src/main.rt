@@ -21,7 +21,7 @@ use client::Shell;
 use fault::Fault;
 use jsp_serve::{Config, Options, script};
 use jsp_shell::Typing;
-use listen::{End, Server};
+use listen::{End, Server, Window};
 use spaces::config;
 use std::alloc::Global;
 use std::env::Env;
@@ -65,19 +65,37 @@ fn main(rt: HostRuntime) -> ExitCode {
         faults: rt.stderr(),
     };
     let done = match read_job(&rt, &streams) {
-        Ok(job) => match job.reader() {
-            Ok(Some(reader)) => match rt.clone() {
-                Ok(system) => {
-                    let input = streams.input;
-                    // Nobody waits for this thread: what it reads for may end before.
-                    match thread::spawn(&rt, move || reader.read(&system, input)) {
-                        Ok(_) => job.run(&rt, streams),
-                        Err(_) => Err(Fault::Spawn),
-                    }
+        Ok(job) => match job.beside() {
+            Ok(Beside { reader, window }) => {
+                // Nobody waits for these threads: what they are for may end before.
+                let reading = match reader {
+                    None => Ok(()),
+                    Some(reader) => match rt.clone() {
+                        Ok(system) => {
+                            let input = streams.input;
+                            match thread::spawn(&rt, move || reader.read(&system, input)) {
+                                Ok(_) => Ok(()),
+                                Err(_) => Err(Fault::Spawn),
+                            }
+                        }
+                        Err(_) => Err(Fault::NoMemory),
+                    },
+                };
+                let showing = match window {
+                    None => Ok(()),
+                    Some(window) => match rt.clone() {
+                        Ok(system) => match thread::spawn(&rt, move || window.show(&system)) {
+                            Ok(_) => Ok(()),
+                            Err(_) => Err(Fault::SpawnShow),
+                        },
+                        Err(_) => Err(Fault::NoMemory),
+                    },
+                };
+                match reading.and(showing) {
+                    Ok(()) => job.run(&rt, streams),
+                    Err(fault) => Err(fault),
                 }
-                Err(_) => Err(Fault::NoMemory),
-            },
-            Ok(None) => job.run(&rt, streams),
+            }
             Err(fault) => Err(fault),
         },
         Err(fault) => Err(fault),
@@ -92,7 +110,22 @@ fn main(rt: HostRuntime) -> ExitCode {
     }
 }
 
+/// What runs beside a job, each in a thread of its own.
+#[derive(Drop)]
+struct Beside {
+    reader: Option<Reader>,
+    window: Option<Window>,
+}
+
 impl Job {
+    /// What is to run beside it.
+    fn beside(&self) -> Result<Beside, Fault> {
+        Ok(Beside {
+            reader: self.reader()?,
+            window: self.window()?,
+        })
+    }
+
     /// What is to read standard input meanwhile.
     fn reader(&self) -> Result<Option<Reader>, Fault> {
         match self {
@@ -105,6 +138,14 @@ impl Job {
                 Some(typing) => Ok(Some(Reader::Typing(typing))),
                 None => Ok(None),
             },
+        }
+    }
+
+    /// What is to show its status meanwhile.
+    fn window(&self) -> Result<Option<Window>, Fault> {
+        match self {
+            Job::Listen(server) => server.window(),
+            Job::Told(_) | Job::Script(_, _) | Job::Client(_) => Ok(None),
         }
     }
 

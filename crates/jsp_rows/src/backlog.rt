@@ -1,5 +1,5 @@
-//! How much waits for a session.
-ghost use Rattle.std.specs.Prelude.{◌≡◌, length};
+//! How much waits for a session, and how much stands in a house.
+ghost use Rattle.std.specs.Prelude.{◌≡◌, ◌==◌, filter, length};
 ghost use Rattle.jsp_model.specs.Outboxes.{outbox_of};
 
 use jsp_model::House;
@@ -8,4 +8,32 @@ use jsp_model::House;
 pub trait Backlog: House {
     fn waiting(&self, session: u64) -> u64
         ensures { result ≡ length (outbox_of (Self.view self.now) session) };
+
+    /// How many transactions there are, and how many of them vote.
+    fn transactions(&self) -> TransactionCounts
+        ensures living { result.living ≡ length (Self.view self.now).transactions }
+        ensures voting { result.voting ≡ length (Self.view self.now).commits };
+
+    /// What stands at a space.
+    fn counts_in(&self, space: u64) -> SpaceCounts
+        ensures rows { result.rows ≡ length (filter (λ r. r.space == space) (Self.view self.now).rows) }
+        ensures waiting { result.waiting ≡ length (filter (λ b. b.space == space) (Self.view self.now).blocked) }
+        ensures registrations { result.registrations ≡ length (filter (λ r. r.space == space) (Self.view self.now).registrations) }
+        ensures match_sets { result.match_sets ≡ length (filter (λ m. m.space == space) (Self.view self.now).sets) };
+}
+
+/// How many transactions there are, and how many of them vote.
+#[derive(Clone, Copy, Debug, PartialEq, Eq)]
+pub struct TransactionCounts {
+    pub living: u64,
+    pub voting: u64,
+}
+
+/// How much stands at a space.
+#[derive(Clone, Copy, Debug, PartialEq, Eq)]
+pub struct SpaceCounts {
+    pub rows: u64,
+    pub waiting: u64,
+    pub registrations: u64,
+    pub match_sets: u64,
 }

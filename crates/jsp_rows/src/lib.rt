@@ -22,7 +22,7 @@ mod settling;
 mod to_come;
 mod unquiet;
 
-pub use backlog::Backlog;
+pub use backlog::{Backlog, SpaceCounts, TransactionCounts};
 pub use rows_house::RowsHouse;
 
 // What the calls of a house speak of, so that its callers name one crate.

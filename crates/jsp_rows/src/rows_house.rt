@@ -6,7 +6,7 @@ ghost use Rattle.jsp_quiet.specs.Props.{IsSteady-prop};
 
 use crate::acting::{act, act_ready, make_ready};
 use crate::answering::{answer, close, next_waiting};
-use crate::backlog::Backlog;
+use crate::backlog::{Backlog, SpaceCounts, TransactionCounts};
 use crate::performing::clear;
 use crate::settling::{all_quiet, settle, turn};
 use jsp_audit::{empty_image, is_open};
@@ -154,5 +154,23 @@ impl House for RowsHouse {
 impl Backlog for RowsHouse {
     fn waiting(&self, session: u64) -> u64 {
         self.image.state().outboxes.waiting(session)
+    }
+
+    fn transactions(&self) -> TransactionCounts {
+        let state = self.image.state();
+        TransactionCounts {
+            living: state.transactions.len() as u64,
+            voting: state.commits.as_slice().len() as u64,
+        }
+    }
+
+    fn counts_in(&self, space: u64) -> SpaceCounts {
+        let state = self.image.state();
+        SpaceCounts {
+            rows: state.rows.count_in(space) as u64,
+            waiting: state.blocked.count_in(space) as u64,
+            registrations: state.registrations.count_in(space) as u64,
+            match_sets: state.sets.count_in(space) as u64,
+        }
     }
 }

@@ -12,6 +12,7 @@
 #![tactic(auto)]
 
 mod audit;
+mod board;
 mod connections;
 mod fault;
 mod line;
@@ -19,12 +20,15 @@ mod lines;
 mod print;
 mod run;
 mod server;
+mod show;
 mod stop;
 mod streams;
 mod writing;
 
+pub use board::Board;
 pub use jsp_floor::{Bounds, Closed, RunFault};
 pub use jsp_model::Config;
 pub use run::{Ending, Options, Status, script};
 pub use server::{Service, serve};
+pub use show::show_status;
 pub use stop::Stop;

@@ -152,6 +152,13 @@ impl Transactions {
         self.list.has_at_least(count)
     }
 
+    /// How many there are.
+    pub fn len(&self) -> usize
+        ensures { result ≡ length self.now }
+    {
+        self.list.len()
+    }
+
     /// Whether the transaction of this number passes a test.
     pub fn any_of<P: Test<Transaction>>(&self, number: u64, test: &P) -> bool
         ensures { result ≡ list_any (λ t. t.number == number && P.is_passed test.now t) self.now }

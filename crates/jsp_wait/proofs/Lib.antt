@@ -1,2 +1,3 @@
 pub mod Seeking
 pub mod Least
+pub mod Counting

@@ -1,6 +1,7 @@
 //! The requests that wait, found by hints.
-ghost use Rattle.std.specs.Prelude.{◌≡◌, ◌==◌, ◌&&◌, ◌++◌, ℕ, true, map, filter, find, option_copied, IfOk, MatchOption};
+ghost use Rattle.std.specs.Prelude.{◌≡◌, ◌==◌, ◌&&◌, ◌++◌, ℕ, true, false, map, filter, find, length, option_copied, IfOk, MatchOption};
 ghost use Rattle.std.specs.List.{list_any};
+ghost use Rattle.std.specs.Option.{option_map_or};
 ghost use Rattle.jsp_model.specs.declared.state.Blocked.{Blocked as OfBlocked};
 ghost use Rattle.jsp_table.specs.Places.{living};
 ghost use Rattle.jsp_keyed.specs.Finding.{is_sought};
@@ -48,6 +49,29 @@ pub(crate) fn first_at_places<'a, P: Test<Blocked>>(
         }
     }
     None
+}
+
+/// How many of those at these places wait at a space.
+pub(crate) fn count_waiting_at(places: &[Option<Blocked>], space: u64) -> usize
+    ensures { result ≡ length (filter (λ b. b.space == space) (living places.now)) }
+{
+    count_places_at(places, space)
+}
+
+fn count_places_at(places: &[Option<Blocked>], space: u64) -> usize
+    ensures { result ≡ length (filter (λ place. option_map_or (λ b. b.space == space) place false) places.now) }
+{
+    places.iter().filter(|place| waits_at(place, space)).count()
+}
+
+/// Whether a request stands there that waits at a space.
+fn waits_at(place: &Option<Blocked>, space: u64) -> bool
+    ensures { result ≡ option_map_or (λ b. b.space == space) place.now false }
+{
+    match place {
+        Some(request) => request.space == space,
+        None => false,
+    }
 }
 
 /// Whether the session's request of this id waits.

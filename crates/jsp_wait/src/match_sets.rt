@@ -157,6 +157,13 @@ impl MatchSets {
         self.list.has_at_least(count)
     }
 
+    /// How many are open at a space.
+    pub fn count_in(&self, space: u64) -> usize
+        ensures { result ≡ length (filter (λ m. m.space == space) self.now) }
+    {
+        self.list.count(&SetAt { space })
+    }
+
     /// Whether there is one of this number.
     pub fn has(&self, number: u64) -> bool
         ensures { result ≡ list_any (λ m. m.number == number) self.now }

@@ -87,6 +87,12 @@ pub(crate) fn count_asked(requests: &[Blocked], session: u64) -> usize
     requests.iter().filter(|b| b.session == session).count()
 }
 
+pub(crate) fn count_waiting(requests: &[Blocked], space: u64) -> usize
+    ensures { result ≡ length (filter (λ b. b.space == space) requests.now) }
+{
+    requests.iter().filter(|b| b.space == space).count()
+}
+
 pub(crate) fn spaces_numbered(
     alloc: Global,
     requests: &[Blocked],

@@ -8,11 +8,12 @@ ghost use Rattle.jsp_wait.specs.Offered.{AskForIt, takes_one, waits_no_more};
 
 use crate::asking::{At, OfSession, Under, UnderAny, UnderIt};
 use crate::by_number::Requests;
-use crate::keyed::{askers, copies_of, first_at_places, is_asked, space_of};
+use crate::keyed::{askers, copies_of, count_waiting_at, first_at_places, is_asked, space_of};
 use crate::offer::Offer;
 use crate::scanned::{
-    any_asked, any_takes, asked_at, asked_under, count_asked, drop_at, drop_numbered, drop_of,
-    drop_under, first_numbered, first_over, first_passing, plain_copy, spaces_numbered,
+    any_asked, any_takes, asked_at, asked_under, count_asked, count_waiting, drop_at,
+    drop_numbered, drop_of, drop_under, first_numbered, first_over, first_passing, plain_copy,
+    spaces_numbered,
 };
 use crate::taking::{Stirred, TakesOne, first_stirred, first_taker, is_wanted};
 use jsp_keyed::Keyed;
@@ -262,6 +263,16 @@ impl Waiters {
         match &self.kept {
             Kept::Scanned(requests) => count_asked(requests, session),
             Kept::Keyed(requests) => requests.count(&OfSession { session }),
+        }
+    }
+
+    /// How many requests wait at a space. Each is looked at.
+    pub fn count_in(&self, space: u64) -> usize
+        ensures { result ≡ length (filter (λ b. b.space == space) self.now) }
+    {
+        match &self.kept {
+            Kept::Scanned(requests) => count_waiting(requests, space),
+            Kept::Keyed(requests) => count_waiting_at(requests.places(), space),
         }
     }
 

@@ -9,4 +9,4 @@ numbers-init c = start_taken c.args.x c.args.numbers.now c.args.rows.now
 pub numbers-preserved : goal.numbers-preserved
 numbers-preserved c =
     let n = get_or c.args.numbers.now c.numbers.number-index 0 in
-    c.change.ensures ∙ (ap (map (λ (r : Row). cond (eqb r.number n) (record r { taker = Some c.args.x }) r)) c.numbers.invariant ∙ one_taken c.args.x c.args.numbers.now c.numbers.number-index c.args.rows.now c.numbers-test.true)
+    c.take.ensures ∙ (ap (map (λ (r : Row). cond (eqb r.number n) (record r { taker = Some c.args.x }) r)) c.numbers.invariant ∙ one_taken c.args.x c.args.numbers.now c.numbers.number-index c.args.rows.now c.numbers-test.true)

@@ -7,4 +7,4 @@ pub invariant_of-self-2 : goal.invariant_of-self-2
 invariant_of-self-2 c =
     let holders = c.add_hint.new.hints in
     let still = all_still_held c.self.inside.holders holders c.self.inside.rows c.add_hint.ensures.keeps c.self.invariant in
-    subst (AreHeld holders) (sym c.in_ok-try_change.ensures.ok) (held_read holders c.args.number c.args.x c.self.inside.rows c.in_ok-add_hint.ensures.ok still)
+    subst (AreHeld holders) (sym c.in_ok-read.ensures.ok) (held_read holders c.args.number c.args.x c.self.inside.rows c.in_ok-add_hint.ensures.ok still)

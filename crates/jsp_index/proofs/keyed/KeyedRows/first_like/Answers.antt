@@ -1,24 +1,23 @@
-use Rattle.std.proofs.Common.{List, option_copied, sym, subst}
+use Rattle.std.proofs.Common.{sym, subst}
 use Rattle.jsp_types.specs.declared.entry.Template.{Template}
-use Rattle.jsp_model.specs.declared.state.Row.{Row}
-use Rattle.jsp_table.specs.Finding.{AreNamed}
-use Rattle.jsp_index.specs.Finding.{number, is_next, is_like, IsLeast}
+use Rattle.jsp_keyed.specs.Keys.{field_key}
+use Rattle.jsp_keyed.specs.Finding.{HaveKey}
+use Rattle.jsp_index.specs.Keys.{row_keys}
+use Rattle.jsp_index.specs.Finding.{is_like}
+use Rattle.jsp_index.specs.Passed.{is_open}
 use Rattle.jsp_index.proofs.Covering.{and_both, space_has}
 use Rattle.jsp_index.proofs.keyed.KeyedRows.first_like.Goals as goal
 
 pub returns-in-Any : goal.returns-in-Any
 returns-in-Any g c =
-    let p = is_next (g.P.Test.is_passed c.args.test.now) c.args.after in
     let kind = is_like c.args.classes.now c.args.space c.args.template.now in
-    subst (λ (w : List Row). IsLeast p kind w (option_copied c.first_named.result)) c.self.view_is
-    (c.first_named.ensures.least kind (c.numbers_under-numbers.ensures kind (λ seed r h. space_has seed c.args.space r (and_both _ _ h).0)))
+    c.first_listed.ensures kind (is_open c.args.behind.unseen) (c.listed-listed.ensures kind (λ seed r h. space_has seed c.args.space r (and_both _ _ h).0)) c.requires
 
 pub returns-in-Some : goal.returns-in-Some
 returns-in-Some g c =
-    let p = is_next (g.P.Test.is_passed c.args.test.now) c.args.after in
     let classes = c.args.classes.now in
-    let kind = is_like classes c.args.space c.args.template.now in
-    let ns = c.in-Some.numbers.now in
-    let rows = c.self.inside.rows in
-    let named : AreNamed number kind ns rows = subst (λ (t : Template). AreNamed number (is_like classes c.args.space t) ns rows) (sym c.in-Like.is) (c.in-Some.ensures classes) in
-    subst (λ (w : List Row). IsLeast p kind w (option_copied c.first_named-in-Some.result)) c.self.view_is (c.first_named-in-Some.ensures.least kind named)
+    let space = c.args.space in
+    let kind = is_like classes space c.args.template.now in
+    let field = c.in-Some.field.now in
+    let have : HaveKey row_keys (λ seed. field_key seed space field.0 field.1) kind = subst (λ (t : Template). HaveKey row_keys (λ seed. field_key seed space field.0 field.1) (is_like classes space t)) (sym c.in-Like.is) (c.in-Some.ensures classes) in
+    c.first_listed-in-Some.ensures kind (is_open c.args.behind.unseen) (c.listed-listed-in-Some.ensures kind have) c.requires

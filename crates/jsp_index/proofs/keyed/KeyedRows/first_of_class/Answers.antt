@@ -1,29 +1,26 @@
-use Rattle.std.proofs.Common.{◌≡◌, false, List, None, option_copied, sym, ◌∙◌, subst, arith, rules}
+use Rattle.std.proofs.Common.{◌≡◌, false, sym, ◌∙◌, arith, rules}
 use Rattle.std.proofs.lemmas.Grind.{common_steps}
-use Rattle.jsp_model.specs.declared.state.Row.{Row}
 use Rattle.jsp_types.specs.Classes.{is_sub}
-use Rattle.jsp_index.specs.Finding.{number, is_next, IsLeast}
+use Rattle.jsp_index.specs.Finding.{number, is_next}
+use Rattle.jsp_index.specs.Passed.{is_open}
 use Rattle.jsp_index.proofs.Narrowing.{is_like_and, class_kept, class_apart, least_unnamed}
 use Rattle.jsp_keyed.proofs.Least.{least_none}
 use Rattle.jsp_index.proofs.keyed.KeyedRows.first_of_class.Goals as goal
 
 pub returns-then-is_empty : goal.returns-then-is_empty
 returns-then-is_empty g c =
-    let p = is_next (g.P.Test.is_passed c.args.test.now) c.args.after in
+    let p = is_next (g.P.Test.is_passed c.args.test.now) c.args.behind.number in
     let kind = is_like_and c.args.classes.now c.args.space c.args.like.now c.args.class.now in
-    subst (λ (w : List Row). IsLeast p kind w None) c.self.view_is
-    (least_unnamed p kind c.numbers_under-numbers.result.now c.self.inside.rows (sym c.is_empty.ensures ∙ c.if-is_empty.true) (c.numbers_under-numbers.ensures kind (class_kept c.args.classes.now c.args.space c.args.like.now c.args.class.now)))
+    least_unnamed p kind c.listed-listed.result.numbers.now c.args.self.now (sym c.is_empty.ensures ∙ c.if-is_empty.true) (c.listed-listed.ensures kind (class_kept c.args.classes.now c.args.space c.args.like.now c.args.class.now)).named
 
 pub returns-then-is_sub : goal.returns-then-is_sub
 returns-then-is_sub g c =
-    let p = is_next (g.P.Test.is_passed c.args.test.now) c.args.after in
     let kind = is_like_and c.args.classes.now c.args.space c.args.like.now c.args.class.now in
-    subst (λ (w : List Row). IsLeast p kind w (option_copied c.first_named.result)) c.self.view_is
-    (c.first_named.ensures.least kind (c.numbers_under-numbers.ensures kind (class_kept c.args.classes.now c.args.space c.args.like.now c.args.class.now)))
+    c.first_listed.ensures kind (is_open c.args.behind.unseen) (c.listed-listed.ensures kind (class_kept c.args.classes.now c.args.space c.args.like.now c.args.class.now)) c.requires
 
 pub returns-else-is_sub : goal.returns-else-is_sub
 returns-else-is_sub g c =
-    let p = is_next (g.P.Test.is_passed c.args.test.now) c.args.after in
+    let p = is_next (g.P.Test.is_passed c.args.test.now) c.args.behind.number in
     let classes = c.args.classes.now in
     let class = c.args.class.now in
     let like = c.args.like.now in

@@ -12,7 +12,7 @@ use Rattle.jsp_index.proofs.keyed.KeyedRows.first_of_classes.Goals as goal
 
 pub classes-preserved : goal.classes-preserved
 classes-preserved g c =
-    let p = is_next (g.P.Test.is_passed c.args.test.now) c.args.after in
+    let p = is_next (g.P.Test.is_passed c.args.test.now) c.args.behind.number in
     let classes = c.args.classes.now in
     let space = c.args.space in
     let like = c.args.like.now in
@@ -30,7 +30,7 @@ classes-preserved g c =
 
 pub returns : goal.returns
 returns g c =
-    let p = is_next (g.P.Test.is_passed c.args.test.now) c.args.after in
+    let p = is_next (g.P.Test.is_passed c.args.test.now) c.args.behind.number in
     let classes = c.args.classes.now in
     let space = c.args.space in
     let like = c.args.like.now in
@@ -41,5 +41,5 @@ returns g c =
     let all : take i seen ≡ seen = take_all i seen (first_of (omega (arith, c.classes-test.false), grind (arith, common_steps))) in
     let done : IsLeast p (is_like_of classes space like seen) rows found = subst (λ (w : List (List ℕ)). IsLeast p (is_like_of classes space like w) rows found) all c.classes.invariant in
     let classed : AllByRecursion (λ (r : Row). IsAmong seen r.entry.class) rows = subst (λ (w : List Row). AllByRecursion (λ (r : Row). IsAmong seen r.entry.class) w) c.self.view_is
-    (subst (λ (w : List (List ℕ)). AllByRecursion (λ (r : Row). IsAmong w r.entry.class) c.self.inside.rows) (sym c.as_slice-class-items.ensures) c.self.invariant.classes) in
+    (subst (λ (w : List (List ℕ)). AllByRecursion (λ (r : Row). IsAmong w r.entry.class) c.self.inside.rows) (sym c.as_slice-class-items.ensures) c.self.invariant.0.classes) in
     least_among number p (λ (r : Row). IsAmong seen r.entry.class) (is_like_of classes space like seen) (is_like classes space (Like like)) rows found classed (λ r a h. of_seen classes space like seen r a h) done

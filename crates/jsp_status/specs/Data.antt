@@ -1,0 +1,42 @@
+-- The status as JSON.
+use Rattle.std.specs.Prelude.{ℕ, map, codes, string_bytes}
+use Rattle.serde_json.specs.Data.{Data, number, unsigned, string, array, object, no_members, member}
+use Rattle.serde_json.specs.View.{items_of}
+use Rattle.jsp_status.specs.declared.status.RefusalCount.{RefusalCount}
+use Rattle.jsp_status.specs.declared.status.SpaceStatus.{SpaceStatus}
+use Rattle.jsp_status.specs.declared.status.Status.{Status}
+
+abbrev pub count_data : ℕ → Data
+count_data n = number (unsigned n)
+
+abbrev pub refusal_data : RefusalCount → Data
+refusal_data r =
+    object (member (codes "count") (count_data r.count)
+    (member (codes "number") (count_data r.number) no_members))
+
+abbrev pub space_data : SpaceStatus → Data
+space_data s =
+    object (member (codes "match_sets") (count_data s.match_sets)
+    (member (codes "name") (string (string_bytes s.name))
+    (member (codes "registrations") (count_data s.registrations)
+    (member (codes "rows") (count_data s.rows)
+    (member (codes "waiting") (count_data s.waiting) no_members)))))
+
+abbrev pub transactions_data : Status → Data
+transactions_data s =
+    object (member (codes "living") (count_data s.living)
+    (member (codes "voting") (count_data s.voting) no_members))
+
+-- the members are in the order of their names
+abbrev pub status_data : Status → Data
+status_data s =
+    object (member (codes "answers") (count_data s.answers)
+    (member (codes "connections") (count_data s.connections)
+    (member (codes "era") (count_data s.era)
+    (member (codes "refusals") (array (items_of (map refusal_data s.refusals.items)))
+    (member (codes "requests") (count_data s.requests)
+    (member (codes "seals") (count_data s.seals)
+    (member (codes "spaces") (array (items_of (map space_data s.spaces.items)))
+    (member (codes "transactions") (transactions_data s)
+    (member (codes "uptime_ms") (count_data s.uptime_ms)
+    (member (codes "version") (string (string_bytes s.version)) no_members))))))))))
