@@ -1,4 +1,3 @@
 pub mod Streams
 pub mod Readings
 pub mod Pieces
-pub mod Cutting

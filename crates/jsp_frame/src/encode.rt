@@ -3,7 +3,6 @@ ghost use Rattle.std.specs.Prelude.{◌≡◌, ◌<◌, ◌^◌, length, IfOk};
 ghost use Rattle.jsp_frame.specs.Stream.{frame_of};
 
 use crate::NoMemory;
-use bytes::{BufMut, BytesMut};
 use std::alloc::Global;
 
 /// The frame of a payload: its length in 4 bytes, big-endian, and then its bytes. The length has to
@@ -12,8 +11,8 @@ pub fn frame(alloc: Global, payload: &[u8]) -> Result<Vec<u8>, NoMemory>
     requires { length payload.now < 2 ^ 32 }
     ensures { IfOk result (λ frame. frame.items ≡ frame_of payload.now) }
 {
-    let mut frame = BytesMut::with_capacity(alloc, 4 + payload.len())?;
-    frame.put_u32(payload.len() as u32)?;
-    frame.put_slice(payload)?;
-    Ok(frame.into_vec()?)
+    let mut frame = Vec::with_capacity(alloc, 4 + payload.len())?;
+    frame.extend_from_slice(&(payload.len() as u32).to_be_bytes())?;
+    frame.extend_from_slice(payload)?;
+    Ok(frame)
 }
