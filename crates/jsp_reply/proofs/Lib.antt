@@ -1,2 +1,4 @@
 pub mod Texts
 pub mod Lengths
+pub mod Ordered
+pub mod Chains

@@ -8,6 +8,8 @@
 #![tactic(auto)]
 
 mod leases;
+mod members;
+mod pairs;
 mod refusal;
 mod reply;
 mod said;

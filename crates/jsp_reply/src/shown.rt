@@ -1,52 +1,101 @@
 //! Entries as JSON.
-ghost use Rattle.std.specs.Prelude.{◌≡◌, IfOk};
-ghost use Rattle.serde_json.specs.View.{view};
-ghost use Rattle.jsp_reply.specs.Text.{value_data};
+ghost use Rattle.std.specs.Prelude.{◌∷◌, [], map, codes};
+ghost use Rattle.json.specs.Token as token;
+ghost use Rattle.serde_json.specs.Data.{object, no_members};
+ghost use Rattle.jsp_reply.specs.Text.{value_data, with_fields};
 ghost use Rattle.jsp_reply.specs.Json.{list_data, entry_data, page_data};
+ghost use Rattle.jsp_reply.specs.Ordered.{members_of};
+ghost use Rattle.jsp_reply.specs.Tokens.{Adds, AddsTokens};
 
-use jsp_types::{Entry, NoMemory, Value};
-use serde_json::{Map, Value as Json, json};
+use crate::members::in_order;
+use crate::pairs::{write_flag, write_name, write_text};
+use json::Writer;
+use jsp_types::{Entry, NoMemory, Text, Value};
 use std::alloc::Global;
 
-fn value_json(alloc: Global, value: &Value) -> Result<Json, NoMemory>
-    ensures { IfOk result (λ v. view v ≡ value_data value.now) }
+fn write_value(out: &mut Writer, value: &Value) -> Result<(), NoMemory>
+    ensures { Adds result out.old out.new (value_data value.now) }
 {
     match value {
-        Value::Null => Ok(Json::Null),
-        Value::Int(n) => Ok(Json::from(*n)),
-        Value::Text(text) => Json::try_from_str(alloc, text.as_str()),
-        Value::Bool(b) => Ok(Json::Bool(*b)),
+        Value::Null => out.null(),
+        Value::Int(n) => out.i64(*n),
+        Value::Text(text) => out.string(text.as_str()),
+        Value::Bool(b) => out.boolean(*b),
     }
 }
 
-/// An entry: its class, and all its fields in byte order of their names, in which the map keeps
-/// them.
-pub(crate) fn entry_json(alloc: Global, entry: &Entry) -> Result<Json, NoMemory>
-    ensures { IfOk result (λ v. view v ≡ entry_data entry.now) }
+/// The fields in the order in which they are given.
+fn write_members(out: &mut Writer, fields: &[&(Text, Value)]) -> Result<(), NoMemory>
+    ensures { Adds result out.old out.new (object (members_of (map (λ f. f.now) fields.now))) }
 {
-    let mut fields = Map::new(alloc);
-    for (name, value) in entry.fields.as_slice() {
-        let value = value_json(alloc, value)?;
-        serde_json::put(&mut fields, alloc, name.as_str(), value)?;
+    out.begin_object()?;
+    for (name, value) in fields {
+        out.key(name.as_str())?;
+        write_value(out, value)?;
     }
-    json!(in alloc; {"class": entry.class.as_str(), "fields": fields})
+    out.end_object()
+}
+
+fn write_fields(alloc: Global, out: &mut Writer, fields: &[(Text, Value)]) -> Result<(), NoMemory>
+    ensures { Adds result out.old out.new (object (with_fields fields.now no_members)) }
+{
+    let members = in_order(alloc, fields)?;
+    write_members(out, members.as_slice())
+}
+
+fn begin_entry(out: &mut Writer, class: &str) -> Result<(), NoMemory>
+    ensures { AddsTokens result out.old out.new
+        (token.begin_object ∷ token.key (codes "class") ∷ token.string class.now
+        ∷ token.key (codes "fields") ∷ []) }
+{
+    out.begin_object()?;
+    write_text(out, "class", class)?;
+    write_name(out, "fields")
+}
+
+/// An entry: its class, and all its fields in byte order of their names.
+pub(crate) fn write_entry(alloc: Global, out: &mut Writer, entry: &Entry) -> Result<(), NoMemory>
+    ensures { Adds result out.old out.new (entry_data entry.now) }
+{
+    begin_entry(out, entry.class.as_str())?;
+    write_fields(alloc, out, entry.fields.as_slice())?;
+    out.end_object()
 }
 
 /// The entries in their order.
-pub(crate) fn entries_json(alloc: Global, entries: &[Entry]) -> Result<Json, NoMemory>
-    ensures { IfOk result (λ v. view v ≡ list_data entry_data entries.now) }
+pub(crate) fn write_entries(
+    alloc: Global,
+    out: &mut Writer,
+    entries: &[Entry],
+) -> Result<(), NoMemory>
+    ensures { Adds result out.old out.new (list_data entry_data entries.now) }
 {
-    let mut list = Vec::new(alloc);
+    out.begin_array()?;
     for entry in entries {
-        list.push(entry_json(alloc, entry)?)?;
+        write_entry(alloc, out, entry)?;
     }
-    Ok(Json::Array(list))
+    out.end_array()
+}
+
+fn begin_page(out: &mut Writer, end: bool) -> Result<(), NoMemory>
+    ensures { AddsTokens result out.old out.new (token.begin_object ∷ token.key (codes "end")
+        ∷ token.boolean end ∷ token.key (codes "entries") ∷ []) }
+{
+    out.begin_object()?;
+    write_flag(out, "end", end)?;
+    write_name(out, "entries")
 }
 
 /// Entries of a match set, and whether these were its last.
-pub(crate) fn page_json(alloc: Global, end: bool, entries: &[Entry]) -> Result<Json, NoMemory>
-    ensures { IfOk result (λ v. view v ≡ page_data end entries.now) }
+pub(crate) fn write_page(
+    alloc: Global,
+    out: &mut Writer,
+    end: bool,
+    entries: &[Entry],
+) -> Result<(), NoMemory>
+    ensures { Adds result out.old out.new (page_data end entries.now) }
 {
-    let entries = entries_json(alloc, entries)?;
-    json!(in alloc; {"end": end, "entries": entries})
+    begin_page(out, end)?;
+    write_entries(alloc, out, entries)?;
+    out.end_object()
 }

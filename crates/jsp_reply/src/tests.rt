@@ -34,6 +34,23 @@ fn texts_are_escaped(rt: HostRuntime) -> Result<(), Fail> {
     Ok(())
 }
 
+// A reply may have fields in any order, and of a name more than one: the last counts.
+#[test]
+fn fields_stand_in_order_each_once(rt: HostRuntime) -> Result<(), Fail> {
+    let mut fields = Items::new(rt.alloc());
+    fields.push((words(&rt, "b")?, Value::Int(1)))?;
+    fields.push((words(&rt, "a")?, Value::Null))?;
+    fields.push((words(&rt, "b")?, Value::Bool(true)))?;
+    fields.push((words(&rt, "ab")?, Value::Text(words(&rt, "x")?)))?;
+    fields.push((words(&rt, "")?, Value::Int(-5)))?;
+    let class = words(&rt, "A")?;
+    let entry = Entry { class, fields };
+    let wanted = r#"{"id":1,"ok":{"class":"A","fields":{"":-5,"a":null,"ab":"x","b":true}}}"#;
+    let text = reply_text(rt.alloc(), &Reply::Shown { id: 1, entry })?;
+    assert_eq!(rt; text.as_slice(), wanted.as_bytes());
+    Ok(())
+}
+
 #[test]
 fn forms_that_no_operation_gives_yet(rt: HostRuntime) -> Result<(), Fail> {
     let mut leases = Items::new(rt.alloc());
