@@ -64,8 +64,10 @@ impl<T, K: Numbering<T> + Keying<T>> Keyed<T, K> {
         ensures rising { AreNumbered K.number_of self.now }
         ensures positive { AllByRecursion (λ x. 0 < K.number_of x) self.now }
     {
-        // Which says that the numbers rise.
-        let _ = self.table.places();
+        // Where there is nothing, no key is made. That also says that the numbers rise.
+        if self.table.places().is_empty() {
+            return None;
+        }
         first_under_any(&self.table, &self.hints, self.seed, after, test)
     }
 }
