@@ -1,47 +1,48 @@
-//! The fields of an entry in the order in which JSON has them.
-ghost use Rattle.std.specs.Prelude.{◌≡◌, length, take_while, map, OnOk, IfOk};
-ghost use Rattle.std.specs.Cmp.Lexicographic.{slice_cmp};
-ghost use Rattle.std.specs.Ordering.{nat_cmp, is_gt};
-ghost use Rattle.jsp_reply.specs.Ordered.{put_field, ordered};
+//! The fields of an entry as JSON has them: of each name the last, in byte order of their names.
+ghost use Rattle.std.specs.Prelude.{◌≡◌, map, IfOk, OnOk, IsTrue};
+ghost use Rattle.serde_json.specs.Data.{no_members, put};
+ghost use Rattle.jsp_reply.specs.Text.{value_data, with_fields};
+ghost use Rattle.jsp_reply.specs.Ordered.{members_of};
 
 use jsp_types::{NoMemory, Text, Value};
 use std::alloc::Global;
+use std::collections::BTreeMap;
 
-/// How many fields come before the name.
-fn count_before(fields: &[&(Text, Value)], name: &str) -> usize
-    ensures { result
-        ≡ length (take_while (λ f. is_gt (slice_cmp nat_cmp name.now f.now.0)) fields.now) }
+/// Each name with its value.
+pub(crate) type Members<'a> = BTreeMap<&'a str, &'a Value>;
+
+/// Whether each name comes before the next one, so that the fields stand as JSON has them.
+pub(crate) fn are_in_order(fields: &[(Text, Value)]) -> bool
+    ensures { IsTrue result → members_of fields.now ≡ with_fields fields.now no_members }
 {
-    fields
-        .iter()
-        .take_while(|field| name.cmp(field.0.as_str()).is_gt())
-        .count()
+    fields.is_sorted_by(|a, b| a.0.as_str() < b.0.as_str())
 }
 
-/// Puts a field at its place, or in the place of the one of its name.
-fn put<'a>(fields: &mut Vec<&'a (Text, Value)>, field: &'a (Text, Value)) -> Result<(), NoMemory>
-    ensures { OnOk result (map (λ f. f.now) fields.new.items
-        ≡ put_field field.now (map (λ f. f.now) fields.old.items)) }
+/// Puts a member at its place, or its value in the place of that of its name.
+fn put_member<'a>(
+    members: &mut Members<'a>,
+    name: &'a str,
+    value: &'a Value,
+) -> Result<(), NoMemory>
+    ensures { OnOk result (members_of (map (λ m. (m.0.now, m.1.now)) members.new.entries)
+        ≡ put name.now (value_data value.now)
+        (members_of (map (λ m. (m.0.now, m.1.now)) members.old.entries))) }
 {
-    let place = count_before(fields.as_slice(), field.0.as_str());
-    if place < fields.len() && field.0.is(fields[place].0.as_str()) {
-        fields[place] = field;
-    } else {
-        fields.insert(place, field)?;
-    }
+    members.insert(name, value)?;
     Ok(())
 }
 
-/// The fields in byte order of their names, of each name the last.
+/// The fields as JSON has them, whatever their order.
 pub(crate) fn in_order<'a>(
     alloc: Global,
     fields: &'a [(Text, Value)],
-) -> Result<Vec<&'a (Text, Value)>, NoMemory>
-    ensures { IfOk result (λ v. map (λ f. f.now) v.items ≡ ordered fields.now) }
+) -> Result<Members<'a>, NoMemory>
+    ensures { IfOk result (λ members. members_of (map (λ m. (m.0.now, m.1.now)) members.entries)
+        ≡ with_fields fields.now no_members) }
 {
-    let mut members = Vec::with_capacity(alloc, fields.len())?;
-    for field in fields {
-        put(&mut members, field)?;
+    let mut members = Members::new(alloc);
+    for (name, value) in fields {
+        put_member(&mut members, name.as_str(), value)?;
     }
     Ok(members)
 }

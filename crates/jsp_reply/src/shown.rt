@@ -5,9 +5,9 @@ ghost use Rattle.serde_json.specs.Data.{object, no_members};
 ghost use Rattle.jsp_reply.specs.Text.{value_data, with_fields};
 ghost use Rattle.jsp_reply.specs.Json.{list_data, entry_data, page_data};
 ghost use Rattle.jsp_reply.specs.Ordered.{members_of};
-ghost use Rattle.jsp_reply.specs.Tokens.{Adds, AddsTokens};
+ghost use Rattle.jsp_reply.specs.Tokens.{Adds, AddsTokens, tokens_of};
 
-use crate::members::in_order;
+use crate::members::{Members, are_in_order, in_order};
 use crate::pairs::{write_flag, write_name, write_text};
 use json::Writer;
 use jsp_types::{Entry, NoMemory, Text, Value};
@@ -24,23 +24,45 @@ fn write_value(out: &mut Writer, value: &Value) -> Result<(), NoMemory>
     }
 }
 
+fn write_member(out: &mut Writer, name: &str, value: &Value) -> Result<(), NoMemory>
+    ensures { AddsTokens result out.old out.new
+        (token.key name.now ∷ tokens_of (value_data value.now)) }
+{
+    out.key(name)?;
+    write_value(out, value)
+}
+
 /// The fields in the order in which they are given.
-fn write_members(out: &mut Writer, fields: &[&(Text, Value)]) -> Result<(), NoMemory>
-    ensures { Adds result out.old out.new (object (members_of (map (λ f. f.now) fields.now))) }
+fn write_list(out: &mut Writer, fields: &[(Text, Value)]) -> Result<(), NoMemory>
+    ensures { Adds result out.old out.new (object (members_of fields.now)) }
 {
     out.begin_object()?;
     for (name, value) in fields {
-        out.key(name.as_str())?;
-        write_value(out, value)?;
+        write_member(out, name.as_str(), value)?;
     }
     out.end_object()
 }
 
+fn write_members(out: &mut Writer, members: &Members<'_>) -> Result<(), NoMemory>
+    ensures { Adds result out.old out.new
+        (object (members_of (map (λ m. (m.0.now, m.1.now)) members.now.entries))) }
+{
+    out.begin_object()?;
+    for (name, value) in members.iter() {
+        write_member(out, name, value)?;
+    }
+    out.end_object()
+}
+
+/// Fields in any order. Those that stand as JSON has them are written as they stand.
 fn write_fields(alloc: Global, out: &mut Writer, fields: &[(Text, Value)]) -> Result<(), NoMemory>
     ensures { Adds result out.old out.new (object (with_fields fields.now no_members)) }
 {
+    if are_in_order(fields) {
+        return write_list(out, fields);
+    }
     let members = in_order(alloc, fields)?;
-    write_members(out, members.as_slice())
+    write_members(out, &members)
 }
 
 fn begin_entry(out: &mut Writer, class: &str) -> Result<(), NoMemory>

@@ -1,15 +1,16 @@
-use Rattle.std.proofs.Common.{◌≡◌, ◌++◌, drop, map}
+use Rattle.std.proofs.Common.{◌≡◌, ◌++◌}
 use Rattle.json.specs.Tree.{members_tokens}
 use Rattle.serde_json.specs.Data.{object}
 use Rattle.serde_json.specs.Written.{members_outline}
 use Rattle.jsp_reply.specs.Ordered.{members_of}
 use Rattle.jsp_reply.specs.Tokens.{tokens_of}
+use Rattle.jsp_reply.proofs.Ordered.{fields_of}
 use Rattle.jsp_reply.proofs.shown.write_members.Given as goal
 
--- what is written, and then the tokens of the fields to come, are those of the whole object
+-- what is written, and then the tokens of the members to come, are those of the whole object
 abbrev pub invariant-loop-name : goal.invariant-loop-name
 invariant-loop-name l = record {
   before : l.out.before ≡ l.fn.out.before;
-  tokens : l.out.tokens ++ members_tokens (members_outline (members_of (map (λ f. f.now) (drop l.name-index l.fields))))
-      ≡ l.fn.out.tokens ++ tokens_of (object (members_of (map (λ f. f.now) l.fields)));
+  tokens : l.out.tokens ++ members_tokens (members_outline (members_of (fields_of l.name-iterator)))
+      ≡ l.fn.out.tokens ++ tokens_of (object (members_of (fields_of l.members.entries)));
 }
