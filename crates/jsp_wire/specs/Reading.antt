@@ -3,12 +3,8 @@ use Rattle.std.specs.Prelude.{◌≡◌, ℕ, List, if◌then◌else◌, Option,
 use Rattle.std.specs.Str.{is_utf8}
 use Rattle.serde_json.specs.Data.{Data}
 use Rattle.serde_json.specs.Read.{read}
-use Rattle.serde_json.specs.View.{view}
-use Rattle.serde_json.specs.declared.value.Value.{Value}
 use Rattle.jsp_wire.specs.declared.ask.Request.{Request}
 use Rattle.jsp_wire.specs.declared.ask.Version.{Version}
-use Rattle.jsp_wire.specs.declared.fault.Flaw.{Flaw}
-use Rattle.jsp_wire.specs.declared.fault.Flaw.TheVariants.{Refused, Memory}
 use Rattle.jsp_wire.specs.declared.fault.WireFault.{WireFault}
 use Rattle.jsp_wire.specs.declared.fault.WireFault.TheVariants as fault
 use Rattle.jsp_wire.specs.Limits.{within_limits}
@@ -25,12 +21,6 @@ pub data Reading : Type 0 where
 -- the JSON that a payload is
 abbrev pub json_of : List ℕ → Option Data
 json_of payload = if is_utf8 payload then read payload else None
-
--- what was parsed is the JSON that the payload is, unless memory ran out
-abbrev pub Parses : Result Value Flaw → Option Data → Type 0
-Parses (Ok v) read = read ≡ Some (view v)
-Parses (Err Refused) read = read ≡ None
-Parses (Err Memory) read = Unit {0}
 
 unfoldable pub request_of : Version → Data → Option Request
 request_of v d = do

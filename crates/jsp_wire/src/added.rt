@@ -1,5 +1,5 @@
 //! The operations that version 2 adds.
-ghost use Rattle.serde_json.specs.View.{view};
+ghost use Rattle.jsp_wire.specs.Tree.{view};
 ghost use Rattle.jsp_wire.specs.declared.ask.Version.TheVariants.{Two};
 ghost use Rattle.jsp_wire.specs.Parts.{Gives};
 ghost use Rattle.jsp_wire.specs.Operations.{write_all_of, take_many_of, contents_of, next_of, close_set_of, added_of};
@@ -7,12 +7,12 @@ ghost use Rattle.jsp_wire.specs.Operations.{write_all_of, take_many_of, contents
 use crate::fault::Flaw;
 use crate::field::{count_at, number_at, only, optional_number_at, template_at, text_at};
 use crate::list::{entries_at, templates_at};
+use crate::tree::Tree;
 use crate::{Ask, Contents, TakeMany, Version, WriteAll};
-use serde_json::Value as Json;
 use std::alloc::Global;
 
 #[tactic(auto, unfolding(crate::specs::Operations::write_all_of))]
-fn write_all(alloc: Global, json: &Json) -> Result<Ask, Flaw>
+fn write_all(alloc: Global, json: &Tree<'_>) -> Result<Ask, Flaw>
     ensures { Gives result (write_all_of (view json.now)) }
 {
     only(json, &["id", "op", "space", "entries", "lease", "txn"])?;
@@ -29,7 +29,7 @@ fn write_all(alloc: Global, json: &Json) -> Result<Ask, Flaw>
 }
 
 #[tactic(auto, unfolding(crate::specs::Operations::take_many_of))]
-fn take_many(alloc: Global, json: &Json) -> Result<Ask, Flaw>
+fn take_many(alloc: Global, json: &Tree<'_>) -> Result<Ask, Flaw>
     ensures { Gives result (take_many_of (view json.now)) }
 {
     only(
@@ -51,7 +51,7 @@ fn take_many(alloc: Global, json: &Json) -> Result<Ask, Flaw>
 }
 
 #[tactic(auto, unfolding(crate::specs::Operations::contents_of))]
-fn contents(alloc: Global, json: &Json) -> Result<Ask, Flaw>
+fn contents(alloc: Global, json: &Tree<'_>) -> Result<Ask, Flaw>
     ensures { Gives result (contents_of (view json.now)) }
 {
     only(json, &["id", "op", "space", "template", "lease", "txn"])?;
@@ -68,7 +68,7 @@ fn contents(alloc: Global, json: &Json) -> Result<Ask, Flaw>
 }
 
 #[tactic(auto, unfolding(crate::specs::Operations::next_of))]
-fn next(json: &Json) -> Result<Ask, Flaw>
+fn next(json: &Tree<'_>) -> Result<Ask, Flaw>
     ensures { Gives result (next_of (view json.now)) }
 {
     only(json, &["id", "op", "set", "most"])?;
@@ -78,7 +78,7 @@ fn next(json: &Json) -> Result<Ask, Flaw>
 }
 
 #[tactic(auto, unfolding(crate::specs::Operations::close_set_of))]
-fn close_set(json: &Json) -> Result<Ask, Flaw>
+fn close_set(json: &Tree<'_>) -> Result<Ask, Flaw>
     ensures { Gives result (close_set_of (view json.now)) }
 {
     only(json, &["id", "op", "set"])?;
@@ -87,7 +87,7 @@ fn close_set(json: &Json) -> Result<Ask, Flaw>
 }
 
 #[tactic(auto, unfolding(crate::specs::Operations::added_of))]
-fn by_name(alloc: Global, name: &str, json: &Json) -> Result<Ask, Flaw>
+fn by_name(alloc: Global, name: &str, json: &Tree<'_>) -> Result<Ask, Flaw>
     ensures { Gives result (added_of Two name.now (view json.now)) }
 {
     match name {
@@ -102,7 +102,12 @@ fn by_name(alloc: Global, name: &str, json: &Json) -> Result<Ask, Flaw>
 
 /// An operation of version 2, which a line of version 1 hasn't.
 #[tactic(auto, unfolding(crate::specs::Operations::added_of))]
-pub(crate) fn added(alloc: Global, version: Version, name: &str, json: &Json) -> Result<Ask, Flaw>
+pub(crate) fn added(
+    alloc: Global,
+    version: Version,
+    name: &str,
+    json: &Tree<'_>,
+) -> Result<Ask, Flaw>
     ensures { Gives result (added_of version name.now (view json.now)) }
 {
     match version {

@@ -1,17 +1,21 @@
 //! The parts of a request's object.
-ghost use Rattle.std.specs.Prelude.{◌≡◌, map, Some};
-ghost use Rattle.serde_json.specs.View.{view, members_view};
+ghost use Rattle.std.specs.Prelude.{◌≡◌, map, option_map, Some};
+ghost use Rattle.jsp_wire.specs.Tree.{view, members_view};
 ghost use Rattle.jsp_wire.specs.Parts.{Gives, is_known, only, only_members, or_null, number_of, text_at, number_at, count_at, version_numbered, version_at, optional_text_at, optional_number_at, id_at, each_member, members_at, value_of, kind_named, kind_of, kinds_at, raw_of, entry_at, template_of, template_at};
 ghost use Rattle.serde_json.specs.Find.{as_str};
 
 use crate::Version;
 use crate::fault::Flaw;
+use crate::tree::{Members, Tree};
 use jsp_types::{Items, Kind, Raw, Text, Value};
-use serde_json::{Map, Value as Json};
 use std::alloc::Global;
 
+/// Room that is made at once for a list of parts. More is made only for parts that were read, so that
+/// a long list of which the first is wrong costs little.
+pub(crate) const FIRST_ROOM: usize = 32;
+
 /// Whether the value is an object with no key beside these.
-pub(crate) fn only(json: &Json, names: &[&str]) -> Result<(), Flaw>
+pub(crate) fn only(json: &Tree<'_>, names: &[&str]) -> Result<(), Flaw>
     ensures { Gives result (only (map (λ n. n.now) names.now) (view json.now)) }
 {
     match json.as_object() {
@@ -20,7 +24,7 @@ pub(crate) fn only(json: &Json, names: &[&str]) -> Result<(), Flaw>
     }
 }
 
-fn only_members(members: &Map<String, Json>, names: &[&str]) -> Result<(), Flaw>
+fn only_members(members: &Members<'_>, names: &[&str]) -> Result<(), Flaw>
     ensures { Gives result
         (only_members (map (λ n. n.now) names.now) (members_view members.now.entries)) }
 {
@@ -49,23 +53,30 @@ fn text(alloc: Global, text: &str) -> Result<Text, Flaw>
     Ok(Text::from_str(alloc, text)?)
 }
 
+/// The text at a key, as it stands in the payload.
+pub(crate) fn str_at<'a>(json: &Tree<'a>, name: &str) -> Option<&'a str>
+    ensures { option_map (λ s. s.now) result ≡ text_at name.now (view json.now) }
+{
+    json.get(name).and_then(Tree::as_str)
+}
+
 /// The text at a key.
-pub(crate) fn text_at(alloc: Global, json: &Json, name: &str) -> Result<Text, Flaw>
+pub(crate) fn text_at(alloc: Global, json: &Tree<'_>, name: &str) -> Result<Text, Flaw>
     ensures { Gives result (text_at name.now (view json.now)) }
 {
-    let found = json.get(name).and_then(Json::as_str).ok_or(Flaw::Refused)?;
+    let found = str_at(json, name).ok_or(Flaw::Refused)?;
     text(alloc, found)
 }
 
 /// The number at a key.
-pub(crate) fn number_at(json: &Json, name: &str) -> Result<i64, Flaw>
+pub(crate) fn number_at(json: &Tree<'_>, name: &str) -> Result<i64, Flaw>
     ensures { Gives result (number_at name.now (view json.now)) }
 {
-    json.get(name).and_then(Json::as_i64).ok_or(Flaw::Refused)
+    json.get(name).and_then(Tree::as_i64).ok_or(Flaw::Refused)
 }
 
 /// The number at a key, where it isn't negative.
-pub(crate) fn count_at(json: &Json, name: &str) -> Result<u64, Flaw>
+pub(crate) fn count_at(json: &Tree<'_>, name: &str) -> Result<u64, Flaw>
     ensures { Gives result (count_at name.now (view json.now)) }
 {
     let n = number_at(json, name)?;
@@ -86,21 +97,21 @@ fn version_numbered(n: u64) -> Result<Version, Flaw>
 }
 
 /// The version at a key: 1 or 2.
-pub(crate) fn version_at(json: &Json, name: &str) -> Result<Version, Flaw>
+pub(crate) fn version_at(json: &Tree<'_>, name: &str) -> Result<Version, Flaw>
     ensures { Gives result (version_at name.now (view json.now)) }
 {
     version_numbered(count_at(json, name)?)
 }
 
 /// The request's id: a number from 0 to 9,223,372,036,854,775,807.
-pub(crate) fn id_at(json: &Json) -> Option<u64>
+pub(crate) fn id_at(json: &Tree<'_>) -> Option<u64>
     ensures { result ≡ id_at (view json.now) }
 {
-    let id = json.get("id").and_then(Json::as_i64)?;
+    let id = json.get("id").and_then(Tree::as_i64)?;
     if id < 0 { None } else { Some(id as u64) }
 }
 
-fn text_or_null(alloc: Global, json: &Json) -> Result<Option<Text>, Flaw>
+fn text_or_null(alloc: Global, json: &Tree<'_>) -> Result<Option<Text>, Flaw>
     ensures { Gives result (or_null as_str (view json.now)) }
 {
     if json.is_null() {
@@ -110,7 +121,7 @@ fn text_or_null(alloc: Global, json: &Json) -> Result<Option<Text>, Flaw>
     Ok(Some(text(alloc, found)?))
 }
 
-fn number_or_null(json: &Json) -> Result<Option<i64>, Flaw>
+fn number_or_null(json: &Tree<'_>) -> Result<Option<i64>, Flaw>
     ensures { Gives result (or_null number_of (view json.now)) }
 {
     if json.is_null() {
@@ -121,7 +132,11 @@ fn number_or_null(json: &Json) -> Result<Option<i64>, Flaw>
 }
 
 /// The text at a key that may be absent or null.
-pub(crate) fn optional_text_at(alloc: Global, json: &Json, name: &str) -> Result<Option<Text>, Flaw>
+pub(crate) fn optional_text_at(
+    alloc: Global,
+    json: &Tree<'_>,
+    name: &str,
+) -> Result<Option<Text>, Flaw>
     ensures { Gives result (optional_text_at name.now (view json.now)) }
 {
     match json.get(name) {
@@ -131,7 +146,7 @@ pub(crate) fn optional_text_at(alloc: Global, json: &Json, name: &str) -> Result
 }
 
 /// The number at a key that may be absent or null.
-pub(crate) fn optional_number_at(json: &Json, name: &str) -> Result<Option<i64>, Flaw>
+pub(crate) fn optional_number_at(json: &Tree<'_>, name: &str) -> Result<Option<i64>, Flaw>
     ensures { Gives result (optional_number_at name.now (view json.now)) }
 {
     match json.get(name) {
@@ -140,28 +155,27 @@ pub(crate) fn optional_number_at(json: &Json, name: &str) -> Result<Option<i64>,
     }
 }
 
-fn value(alloc: Global, json: &Json) -> Result<Value, Flaw>
+fn value(alloc: Global, json: &Tree<'_>) -> Result<Value, Flaw>
     ensures { Gives result (value_of (view json.now)) }
 {
     match json {
-        Json::Null => Ok(Value::Null),
-        Json::Bool(b) => Ok(Value::Bool(*b)),
-        Json::Number(n) => match n.as_i64() {
+        Tree::Null => Ok(Value::Null),
+        Tree::Bool(b) => Ok(Value::Bool(*b)),
+        Tree::Number(n) => match n.as_i64() {
             None => Err(Flaw::Refused),
             Some(n) => Ok(Value::Int(n)),
         },
-        Json::String(found) => Ok(Value::Text(text(alloc, found)?)),
-        Json::Array(_) => Err(Flaw::Refused),
-        Json::Object(_) => Err(Flaw::Refused),
+        Tree::Text(found) => Ok(Value::Text(text(alloc, found)?)),
+        Tree::List(_) | Tree::Object(_) => Err(Flaw::Refused),
     }
 }
 
 /// The values of the members, in byte order of their keys, since serde_json's map keeps its keys
 /// sorted.
-fn values(alloc: Global, members: &Map<String, Json>) -> Result<Items<(Text, Value)>, Flaw>
+fn values(alloc: Global, members: &Members<'_>) -> Result<Items<(Text, Value)>, Flaw>
     ensures { Gives result (each_member value_of (members_view members.now.entries)) }
 {
-    let mut found = Items::new(alloc);
+    let mut found = Items::from_vec(Vec::with_capacity(alloc, members.len().min(FIRST_ROOM))?);
     for (name, json) in members.iter() {
         let value = value(alloc, json)?;
         found.push((text(alloc, name)?, value))?;
@@ -169,10 +183,10 @@ fn values(alloc: Global, members: &Map<String, Json>) -> Result<Items<(Text, Val
     Ok(found)
 }
 
-fn values_at(alloc: Global, json: &Json, name: &str) -> Result<Items<(Text, Value)>, Flaw>
+fn values_at(alloc: Global, json: &Tree<'_>, name: &str) -> Result<Items<(Text, Value)>, Flaw>
     ensures { Gives result (members_at value_of name.now (view json.now)) }
 {
-    match json.get(name).and_then(Json::as_object) {
+    match json.get(name).and_then(Tree::as_object) {
         None => Err(Flaw::Refused),
         Some(members) => values(alloc, members),
     }
@@ -189,7 +203,7 @@ fn kind_named(name: &str) -> Option<Kind>
     }
 }
 
-fn kind(json: &Json) -> Result<Option<Kind>, Flaw>
+fn kind(json: &Tree<'_>) -> Result<Option<Kind>, Flaw>
     ensures { Gives result (kind_of (view json.now)) }
 {
     match json.as_str() {
@@ -199,10 +213,10 @@ fn kind(json: &Json) -> Result<Option<Kind>, Flaw>
 }
 
 /// The kinds of the members, in byte order of their keys.
-fn kinds(alloc: Global, members: &Map<String, Json>) -> Result<Items<(Text, Option<Kind>)>, Flaw>
+fn kinds(alloc: Global, members: &Members<'_>) -> Result<Items<(Text, Option<Kind>)>, Flaw>
     ensures { Gives result (each_member kind_of (members_view members.now.entries)) }
 {
-    let mut found = Items::new(alloc);
+    let mut found = Items::from_vec(Vec::with_capacity(alloc, members.len().min(FIRST_ROOM))?);
     for (name, json) in members.iter() {
         let kind = kind(json)?;
         found.push((text(alloc, name)?, kind))?;
@@ -213,12 +227,12 @@ fn kinds(alloc: Global, members: &Map<String, Json>) -> Result<Items<(Text, Opti
 /// The names of kinds at a key, each under its field's name.
 pub(crate) fn kinds_at(
     alloc: Global,
-    json: &Json,
+    json: &Tree<'_>,
     name: &str,
 ) -> Result<Items<(Text, Option<Kind>)>, Flaw>
     ensures { Gives result (kinds_at name.now (view json.now)) }
 {
-    match json.get(name).and_then(Json::as_object) {
+    match json.get(name).and_then(Tree::as_object) {
         None => Err(Flaw::Refused),
         Some(members) => kinds(alloc, members),
     }
@@ -226,7 +240,7 @@ pub(crate) fn kinds_at(
 
 /// An entry.
 #[tactic(auto, unfolding(crate::specs::Parts::raw_of))]
-pub(crate) fn raw(alloc: Global, json: &Json) -> Result<Raw, Flaw>
+pub(crate) fn raw(alloc: Global, json: &Tree<'_>) -> Result<Raw, Flaw>
     ensures { Gives result (raw_of (view json.now)) }
 {
     only(json, &["class", "fields"])?;
@@ -236,7 +250,7 @@ pub(crate) fn raw(alloc: Global, json: &Json) -> Result<Raw, Flaw>
 }
 
 /// The entry at a key.
-pub(crate) fn entry_at(alloc: Global, json: &Json, name: &str) -> Result<Raw, Flaw>
+pub(crate) fn entry_at(alloc: Global, json: &Tree<'_>, name: &str) -> Result<Raw, Flaw>
     ensures { Gives result (entry_at name.now (view json.now)) }
 {
     match json.get(name) {
@@ -246,7 +260,7 @@ pub(crate) fn entry_at(alloc: Global, json: &Json, name: &str) -> Result<Raw, Fl
 }
 
 /// A template: null, or as an entry.
-pub(crate) fn template(alloc: Global, json: &Json) -> Result<Option<Raw>, Flaw>
+pub(crate) fn template(alloc: Global, json: &Tree<'_>) -> Result<Option<Raw>, Flaw>
     ensures { Gives result (template_of (view json.now)) }
 {
     if json.is_null() {
@@ -257,7 +271,7 @@ pub(crate) fn template(alloc: Global, json: &Json) -> Result<Option<Raw>, Flaw>
 }
 
 /// The template at a key.
-pub(crate) fn template_at(alloc: Global, json: &Json, name: &str) -> Result<Option<Raw>, Flaw>
+pub(crate) fn template_at(alloc: Global, json: &Tree<'_>, name: &str) -> Result<Option<Raw>, Flaw>
     ensures { Gives result (template_at name.now (view json.now)) }
 {
     match json.get(name) {

@@ -16,7 +16,11 @@ mod fault;
 mod field;
 mod limits;
 mod list;
+mod members;
+mod number;
+mod parse;
 mod read;
+mod tree;
 
 pub use ask::{
     Ask, Contents, Declare, Notify, Request, Search, TakeMany, Version, Write, WriteAll,

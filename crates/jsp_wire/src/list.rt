@@ -1,23 +1,23 @@
 //! The lists of a request's object.
-ghost use Rattle.serde_json.specs.View.{view, items_view};
+ghost use Rattle.jsp_wire.specs.Tree.{view, items_view};
 ghost use Rattle.jsp_wire.specs.Parts.{Gives, number_of, each_item, two_numbers, pair_of, numbers_at, pairs_at, raw_of, template_of, entries_at, templates_at};
 
 use crate::fault::Flaw;
-use crate::field::{raw, template};
+use crate::field::{FIRST_ROOM, raw, template};
+use crate::tree::Tree;
 use jsp_types::{Items, Raw};
-use serde_json::Value as Json;
 use std::alloc::Global;
 
-fn number(json: &Json) -> Result<i64, Flaw>
+fn number(json: &Tree<'_>) -> Result<i64, Flaw>
     ensures { Gives result (number_of (view json.now)) }
 {
     json.as_i64().ok_or(Flaw::Refused)
 }
 
-fn numbers(alloc: Global, items: &[Json]) -> Result<Items<i64>, Flaw>
+fn numbers(alloc: Global, items: &[Tree<'_>]) -> Result<Items<i64>, Flaw>
     ensures { Gives result (each_item number_of (items_view items.now)) }
 {
-    let mut found = Items::new(alloc);
+    let mut found = Items::from_vec(Vec::with_capacity(alloc, items.len().min(FIRST_ROOM))?);
     for json in items {
         let number = number(json)?;
         found.push(number)?;
@@ -26,17 +26,17 @@ fn numbers(alloc: Global, items: &[Json]) -> Result<Items<i64>, Flaw>
 }
 
 /// The numbers of the list at a key.
-pub(crate) fn numbers_at(alloc: Global, json: &Json, name: &str) -> Result<Items<i64>, Flaw>
+pub(crate) fn numbers_at(alloc: Global, json: &Tree<'_>, name: &str) -> Result<Items<i64>, Flaw>
     ensures { Gives result (numbers_at name.now (view json.now)) }
 {
-    match json.get(name).and_then(Json::as_array) {
+    match json.get(name).and_then(Tree::as_array) {
         None => Err(Flaw::Refused),
         Some(items) => numbers(alloc, items),
     }
 }
 
 #[tactic(auto, using(crate::proofs::Pair::too_few, crate::proofs::Pair::too_many))]
-fn two_numbers(items: &[Json]) -> Result<(i64, i64), Flaw>
+fn two_numbers(items: &[Tree<'_>]) -> Result<(i64, i64), Flaw>
     ensures { Gives result (two_numbers (items_view items.now)) }
 {
     match items {
@@ -45,7 +45,7 @@ fn two_numbers(items: &[Json]) -> Result<(i64, i64), Flaw>
     }
 }
 
-fn pair(json: &Json) -> Result<(i64, i64), Flaw>
+fn pair(json: &Tree<'_>) -> Result<(i64, i64), Flaw>
     ensures { Gives result (pair_of (view json.now)) }
 {
     match json.as_array() {
@@ -54,10 +54,10 @@ fn pair(json: &Json) -> Result<(i64, i64), Flaw>
     }
 }
 
-fn pairs(alloc: Global, items: &[Json]) -> Result<Items<(i64, i64)>, Flaw>
+fn pairs(alloc: Global, items: &[Tree<'_>]) -> Result<Items<(i64, i64)>, Flaw>
     ensures { Gives result (each_item pair_of (items_view items.now)) }
 {
-    let mut found = Items::new(alloc);
+    let mut found = Items::from_vec(Vec::with_capacity(alloc, items.len().min(FIRST_ROOM))?);
     for json in items {
         let pair = pair(json)?;
         found.push(pair)?;
@@ -66,19 +66,23 @@ fn pairs(alloc: Global, items: &[Json]) -> Result<Items<(i64, i64)>, Flaw>
 }
 
 /// The pairs of numbers of the list at a key, each an array of exactly two.
-pub(crate) fn pairs_at(alloc: Global, json: &Json, name: &str) -> Result<Items<(i64, i64)>, Flaw>
+pub(crate) fn pairs_at(
+    alloc: Global,
+    json: &Tree<'_>,
+    name: &str,
+) -> Result<Items<(i64, i64)>, Flaw>
     ensures { Gives result (pairs_at name.now (view json.now)) }
 {
-    match json.get(name).and_then(Json::as_array) {
+    match json.get(name).and_then(Tree::as_array) {
         None => Err(Flaw::Refused),
         Some(items) => pairs(alloc, items),
     }
 }
 
-fn entries(alloc: Global, items: &[Json]) -> Result<Items<Raw>, Flaw>
+fn entries(alloc: Global, items: &[Tree<'_>]) -> Result<Items<Raw>, Flaw>
     ensures { Gives result (each_item raw_of (items_view items.now)) }
 {
-    let mut found = Items::new(alloc);
+    let mut found = Items::from_vec(Vec::with_capacity(alloc, items.len().min(FIRST_ROOM))?);
     for json in items {
         let entry = raw(alloc, json)?;
         found.push(entry)?;
@@ -87,19 +91,19 @@ fn entries(alloc: Global, items: &[Json]) -> Result<Items<Raw>, Flaw>
 }
 
 /// The entries of the list at a key.
-pub(crate) fn entries_at(alloc: Global, json: &Json, name: &str) -> Result<Items<Raw>, Flaw>
+pub(crate) fn entries_at(alloc: Global, json: &Tree<'_>, name: &str) -> Result<Items<Raw>, Flaw>
     ensures { Gives result (entries_at name.now (view json.now)) }
 {
-    match json.get(name).and_then(Json::as_array) {
+    match json.get(name).and_then(Tree::as_array) {
         None => Err(Flaw::Refused),
         Some(items) => entries(alloc, items),
     }
 }
 
-fn templates(alloc: Global, items: &[Json]) -> Result<Items<Option<Raw>>, Flaw>
+fn templates(alloc: Global, items: &[Tree<'_>]) -> Result<Items<Option<Raw>>, Flaw>
     ensures { Gives result (each_item template_of (items_view items.now)) }
 {
-    let mut found = Items::new(alloc);
+    let mut found = Items::from_vec(Vec::with_capacity(alloc, items.len().min(FIRST_ROOM))?);
     for json in items {
         let like = template(alloc, json)?;
         found.push(like)?;
@@ -110,12 +114,12 @@ fn templates(alloc: Global, items: &[Json]) -> Result<Items<Option<Raw>>, Flaw>
 /// The templates of the list at a key.
 pub(crate) fn templates_at(
     alloc: Global,
-    json: &Json,
+    json: &Tree<'_>,
     name: &str,
 ) -> Result<Items<Option<Raw>>, Flaw>
     ensures { Gives result (templates_at name.now (view json.now)) }
 {
-    match json.get(name).and_then(Json::as_array) {
+    match json.get(name).and_then(Tree::as_array) {
         None => Err(Flaw::Refused),
         Some(items) => templates(alloc, items),
     }

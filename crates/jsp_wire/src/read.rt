@@ -1,24 +1,26 @@
 //! From a payload to a request.
 ghost use Rattle.std.specs.Prelude.{Some};
-ghost use Rattle.serde_json.specs.View.{view};
+ghost use Rattle.jsp_wire.specs.Tree.{view};
 ghost use Rattle.jsp_wire.specs.declared.ask.Version.TheVariants.{One};
 ghost use Rattle.jsp_wire.specs.Parts.{Gives};
 ghost use Rattle.jsp_wire.specs.Operations.{declare_of, write_of, search_of, notify_of, renew_of, cancel_of, renew_all_of, cancel_all_of, begin_of, transaction_of, reset_of, keyless_of, hello_of, ask_of};
-ghost use Rattle.jsp_wire.specs.Reading.{Answers, Parses, json_of, request_of, reading_of, reading};
+ghost use Rattle.jsp_wire.specs.Reading.{Answers, request_of, reading_of, reading};
 
 use crate::added::added;
 use crate::fault::{Flaw, WireFault};
 use crate::field::{
-    entry_at, id_at, kinds_at, number_at, only, optional_number_at, optional_text_at, template_at,
-    text_at, version_at,
+    entry_at, id_at, kinds_at, number_at, only, optional_number_at, optional_text_at, str_at,
+    template_at, text_at, version_at,
 };
 use crate::list::{numbers_at, pairs_at};
+use crate::parse::parse;
+use crate::tree::Tree;
 use crate::{Ask, Asked, Declare, Notify, Request, Search, Version, Write};
-use serde_json::Value as Json;
+use json::Scratch;
 use std::alloc::Global;
 
 #[tactic(auto, unfolding(crate::specs::Operations::declare_of))]
-fn declare(alloc: Global, json: &Json) -> Result<Ask, Flaw>
+fn declare(alloc: Global, json: &Tree<'_>) -> Result<Ask, Flaw>
     ensures { Gives result (declare_of (view json.now)) }
 {
     only(json, &["id", "op", "class", "parent", "fields"])?;
@@ -33,7 +35,7 @@ fn declare(alloc: Global, json: &Json) -> Result<Ask, Flaw>
 }
 
 #[tactic(auto, unfolding(crate::specs::Operations::write_of))]
-fn write(alloc: Global, json: &Json) -> Result<Ask, Flaw>
+fn write(alloc: Global, json: &Tree<'_>) -> Result<Ask, Flaw>
     ensures { Gives result (write_of (view json.now)) }
 {
     only(json, &["id", "op", "space", "entry", "lease", "txn"])?;
@@ -50,7 +52,7 @@ fn write(alloc: Global, json: &Json) -> Result<Ask, Flaw>
 }
 
 #[tactic(auto, unfolding(crate::specs::Operations::search_of))]
-fn search(alloc: Global, json: &Json) -> Result<Search, Flaw>
+fn search(alloc: Global, json: &Tree<'_>) -> Result<Search, Flaw>
     ensures { Gives result (search_of (view json.now)) }
 {
     only(json, &["id", "op", "space", "template", "timeout", "txn"])?;
@@ -67,7 +69,7 @@ fn search(alloc: Global, json: &Json) -> Result<Search, Flaw>
 }
 
 #[tactic(auto, unfolding(crate::specs::Operations::notify_of))]
-fn notify(alloc: Global, json: &Json) -> Result<Ask, Flaw>
+fn notify(alloc: Global, json: &Tree<'_>) -> Result<Ask, Flaw>
     ensures { Gives result (notify_of (view json.now)) }
 {
     only(
@@ -89,7 +91,7 @@ fn notify(alloc: Global, json: &Json) -> Result<Ask, Flaw>
 }
 
 #[tactic(auto, unfolding(crate::specs::Operations::renew_of))]
-fn renew(json: &Json) -> Result<Ask, Flaw>
+fn renew(json: &Tree<'_>) -> Result<Ask, Flaw>
     ensures { Gives result (renew_of (view json.now)) }
 {
     only(json, &["id", "op", "lease", "ms"])?;
@@ -99,7 +101,7 @@ fn renew(json: &Json) -> Result<Ask, Flaw>
 }
 
 #[tactic(auto, unfolding(crate::specs::Operations::cancel_of))]
-fn cancel(json: &Json) -> Result<Ask, Flaw>
+fn cancel(json: &Tree<'_>) -> Result<Ask, Flaw>
     ensures { Gives result (cancel_of (view json.now)) }
 {
     only(json, &["id", "op", "lease"])?;
@@ -108,7 +110,7 @@ fn cancel(json: &Json) -> Result<Ask, Flaw>
 }
 
 #[tactic(auto, unfolding(crate::specs::Operations::renew_all_of))]
-fn renew_all(alloc: Global, json: &Json) -> Result<Ask, Flaw>
+fn renew_all(alloc: Global, json: &Tree<'_>) -> Result<Ask, Flaw>
     ensures { Gives result (renew_all_of (view json.now)) }
 {
     only(json, &["id", "op", "leases"])?;
@@ -117,7 +119,7 @@ fn renew_all(alloc: Global, json: &Json) -> Result<Ask, Flaw>
 }
 
 #[tactic(auto, unfolding(crate::specs::Operations::cancel_all_of))]
-fn cancel_all(alloc: Global, json: &Json) -> Result<Ask, Flaw>
+fn cancel_all(alloc: Global, json: &Tree<'_>) -> Result<Ask, Flaw>
     ensures { Gives result (cancel_all_of (view json.now)) }
 {
     only(json, &["id", "op", "leases"])?;
@@ -126,7 +128,7 @@ fn cancel_all(alloc: Global, json: &Json) -> Result<Ask, Flaw>
 }
 
 #[tactic(auto, unfolding(crate::specs::Operations::begin_of))]
-fn begin(json: &Json) -> Result<Ask, Flaw>
+fn begin(json: &Tree<'_>) -> Result<Ask, Flaw>
     ensures { Gives result (begin_of (view json.now)) }
 {
     only(json, &["id", "op", "lease"])?;
@@ -136,7 +138,7 @@ fn begin(json: &Json) -> Result<Ask, Flaw>
 
 /// The transaction that an operation is about, which can't be null.
 #[tactic(auto, unfolding(crate::specs::Operations::transaction_of))]
-fn transaction(json: &Json) -> Result<i64, Flaw>
+fn transaction(json: &Tree<'_>) -> Result<i64, Flaw>
     ensures { Gives result (transaction_of (view json.now)) }
 {
     only(json, &["id", "op", "txn"])?;
@@ -145,7 +147,7 @@ fn transaction(json: &Json) -> Result<i64, Flaw>
 }
 
 #[tactic(auto, unfolding(crate::specs::Operations::reset_of))]
-fn reset(alloc: Global, json: &Json) -> Result<Ask, Flaw>
+fn reset(alloc: Global, json: &Tree<'_>) -> Result<Ask, Flaw>
     ensures { Gives result (reset_of (view json.now)) }
 {
     only(json, &["id", "op", "space"])?;
@@ -155,7 +157,7 @@ fn reset(alloc: Global, json: &Json) -> Result<Ask, Flaw>
 
 /// An operation without keys of its own.
 #[tactic(auto, unfolding(crate::specs::Operations::keyless_of))]
-fn keyless(json: &Json, ask: Ask) -> Result<Ask, Flaw>
+fn keyless(json: &Tree<'_>, ask: Ask) -> Result<Ask, Flaw>
     ensures { Gives result (keyless_of ask (view json.now)) }
 {
     only(json, &["id", "op"])?;
@@ -163,7 +165,7 @@ fn keyless(json: &Json, ask: Ask) -> Result<Ask, Flaw>
 }
 
 #[tactic(auto, unfolding(crate::specs::Operations::hello_of))]
-fn hello(json: &Json) -> Result<Ask, Flaw>
+fn hello(json: &Tree<'_>) -> Result<Ask, Flaw>
     ensures { Gives result (hello_of (view json.now)) }
 {
     only(json, &["id", "op", "version"])?;
@@ -172,7 +174,7 @@ fn hello(json: &Json) -> Result<Ask, Flaw>
 }
 
 #[tactic(auto, unfolding(crate::specs::Operations::ask_of))]
-fn ask(alloc: Global, version: Version, name: &str, json: &Json) -> Result<Ask, Flaw>
+fn ask(alloc: Global, version: Version, name: &str, json: &Tree<'_>) -> Result<Ask, Flaw>
     ensures { Gives result (ask_of version name.now (view json.now)) }
 {
     match name {
@@ -206,35 +208,23 @@ fn ask(alloc: Global, version: Version, name: &str, json: &Json) -> Result<Ask, 
 }
 
 #[tactic(auto, unfolding(crate::specs::Reading::request_of))]
-fn request(alloc: Global, version: Version, json: &Json) -> Result<Asked, Flaw>
+fn request(alloc: Global, version: Version, json: &Tree<'_>) -> Result<Asked, Flaw>
     ensures { Gives result (request_of version (view json.now)) }
 {
     let Some(id) = id_at(json) else {
         return Err(Flaw::Refused);
     };
-    let name = text_at(alloc, json, "op")?;
-    let ask = ask(alloc, version, name.as_str(), json)?;
+    let Some(name) = str_at(json, "op") else {
+        return Err(Flaw::Refused);
+    };
+    let ask = ask(alloc, version, name, json)?;
     match Asked::checked(Request { id, ask }) {
         None => Err(Flaw::Refused),
         Some(asked) => Ok(asked),
     }
 }
 
-fn parse(alloc: Global, payload: &[u8]) -> Result<Json, Flaw>
-    ensures { Parses result (json_of payload.now) }
-{
-    match Json::from_slice(alloc, payload) {
-        Ok(json) => Ok(json),
-        Err(e) => {
-            if e.is_memory() {
-                return Err(Flaw::Memory);
-            }
-            Err(Flaw::Refused)
-        }
-    }
-}
-
-fn request_or_fault(alloc: Global, version: Version, json: &Json) -> Result<Asked, WireFault>
+fn request_or_fault(alloc: Global, version: Version, json: &Tree<'_>) -> Result<Asked, WireFault>
     ensures { Answers result (reading_of version (Some (view json.now))) }
 {
     match request(alloc, version, json) {
@@ -266,7 +256,7 @@ pub fn read_ask(alloc: Global, payload: &[u8]) -> Result<Asked, WireFault>
 pub fn read_ask_in(alloc: Global, version: Version, payload: &[u8]) -> Result<Asked, WireFault>
     ensures { Answers result (reading version payload.now) }
 {
-    match parse(alloc, payload) {
+    match parse(alloc, payload, &mut Scratch::new(alloc)) {
         Ok(json) => request_or_fault(alloc, version, &json),
         Err(Flaw::Memory) => Err(WireFault::NoMemory),
         Err(Flaw::Refused) => Err(WireFault::BadJson),

@@ -1,5 +1,5 @@
-use Rattle.std.proofs.Common.{◌≡◌, [], ◌∷◌, ◌++◌, string_bytes}
-use Rattle.serde_json.specs.View.{view, members_view}
+use Rattle.std.proofs.Common.{◌≡◌, [], ◌∷◌, ◌++◌, refl}
+use Rattle.jsp_wire.specs.Tree.{view, members_view}
 use Rattle.jsp_wire.specs.Parts.{each_member, kind_of}
 use Rattle.jsp_wire.proofs.Loop.{with_front, member_read, some_same}
 use Rattle.jsp_wire.proofs.field.kinds.Goals as goal
@@ -7,9 +7,9 @@ use Rattle.jsp_wire.proofs.field.kinds.Goals as goal
 pub loop-name-preserved : goal.loop-name-preserved
 loop-name-preserved c =
     let front = c.loop-name.found in
-    let k = string_bytes c.in-Some.name.now in
+    let k = c.in-Some.name.now.now in
     let whole = each_member kind_of (members_view c.args.members.now.entries) in
-    let named : c.in_ok-text.field-0 ≡ k = some_same _ _ k c.in_ok-text.ensures c.deref.ensures in
+    let named : c.in_ok-text.field-0 ≡ k = some_same _ _ k c.in_ok-text.ensures refl in
     let pushed : c.push.new.self ≡ front ++ (k, c.in_ok-kind.kind) ∷ [] = rw (← named) c.in_ok-push.ensures.ok in
     let kept : with_front front (each_member kind_of (members_view ((c.in-Some.name.now, c.in-Some.json.now) ∷ c.next.new.self))) ≡ whole =
     rw c.in-Some.ensures.steps at c.loop-name.invariant in

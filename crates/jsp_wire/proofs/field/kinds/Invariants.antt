@@ -1,5 +1,5 @@
 use Rattle.std.proofs.Common.{◌≡◌}
-use Rattle.serde_json.specs.View.{members_view}
+use Rattle.jsp_wire.specs.Tree.{members_view}
 use Rattle.jsp_wire.specs.Parts.{each_member, kind_of}
 use Rattle.jsp_wire.proofs.Loop.{with_front}
 use Rattle.jsp_wire.proofs.field.kinds.Given as goal

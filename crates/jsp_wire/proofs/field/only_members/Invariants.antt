@@ -1,5 +1,5 @@
 use Rattle.std.proofs.Common.{◌≡◌, map}
-use Rattle.serde_json.specs.View.{members_view}
+use Rattle.jsp_wire.specs.Tree.{members_view}
 use Rattle.jsp_wire.specs.Parts.{only_members}
 use Rattle.jsp_wire.proofs.field.only_members.Given as goal
 

@@ -1,5 +1,5 @@
 use Rattle.std.proofs.Common.{◌≡◌, drop}
-use Rattle.serde_json.specs.View.{items_view}
+use Rattle.jsp_wire.specs.Tree.{items_view}
 use Rattle.jsp_wire.specs.Parts.{each_item, number_of}
 use Rattle.jsp_wire.proofs.Loop.{with_front}
 use Rattle.jsp_wire.proofs.list.numbers.Given as goal
