@@ -9,6 +9,7 @@ use crate::closed::{Fault, LineReport};
 use jsp_drive::{Line, LineInput, Next};
 use jsp_model::Step;
 use jsp_types::{Items, NoMemory};
+use jsp_wire::Scratch;
 use std::alloc::Global;
 
 /// The lines of these reports, each fed all its bytes.
@@ -42,9 +43,10 @@ pub(crate) fn ask_again(
     ensures gave { IfOk result (λ asked. HaveGiven reports.now lines.new.items asked.items) }
     ensures same { IfOk result (λ asked. map unasked asked.items ≡ map unasked steps.items) }
 {
+    let mut scratch = Scratch::new(alloc);
     let mut asked = Vec::new(alloc);
     for step in steps {
-        let again = step_again(lines, step)?;
+        let again = step_again(lines, &mut scratch, step)?;
         add_step(&mut asked, again)?;
     }
     Ok(asked)
@@ -58,7 +60,7 @@ fn add_step(steps: &mut Vec<Step>, step: Step) -> Result<(), NoMemory>
 }
 
 // The step, or where a session asks in it the same with what the session's line gives.
-fn step_again(lines: &mut Vec<Line>, step: Step) -> Result<Step, Fault>
+fn step_again(lines: &mut Vec<Line>, scratch: &mut Scratch, step: Step) -> Result<Step, Fault>
     ensures gave { IfOk result (λ again. GiveStep again lines.old.items lines.new.items) }
     ensures same { IfOk result (λ again. unasked again ≡ unasked step) }
 {
@@ -69,19 +71,24 @@ fn step_again(lines: &mut Vec<Line>, step: Step) -> Result<Step, Fault>
             rows,
         } => {
             drop(asked);
-            request_again(lines, session, rows)
+            request_again(lines, scratch, session, rows)
         }
-        Step::Fault { session, .. } => fault_again(lines, session),
+        Step::Fault { session, .. } => fault_again(lines, scratch, session),
         other => Ok(other),
     }
 }
 
 // A request of the session, as its line gives it.
-fn request_again(lines: &mut Vec<Line>, session: u64, rows: Items<u64>) -> Result<Step, Fault>
+fn request_again(
+    lines: &mut Vec<Line>,
+    scratch: &mut Scratch,
+    session: u64,
+    rows: Items<u64>,
+) -> Result<Step, Fault>
     ensures gave { IfOk result (λ again. GiveStep again lines.old.items lines.new.items) }
     ensures same { IfOk result (λ again. unasked again ≡ step.Ask session anything rows) }
 {
-    match next_input(lines, session)? {
+    match next_input(lines, scratch, session)? {
         LineInput::Ask(asked) => Ok(Step::Ask {
             session,
             asked,
@@ -92,11 +99,11 @@ fn request_again(lines: &mut Vec<Line>, session: u64, rows: Items<u64>) -> Resul
 }
 
 // A fault of the session, as its line gives it.
-fn fault_again(lines: &mut Vec<Line>, session: u64) -> Result<Step, Fault>
+fn fault_again(lines: &mut Vec<Line>, scratch: &mut Scratch, session: u64) -> Result<Step, Fault>
     ensures gave { IfOk result (λ again. GiveStep again lines.old.items lines.new.items) }
     ensures same { IfOk result (λ again. unasked again ≡ step.Fault session None TooLong) }
 {
-    match next_input(lines, session)? {
+    match next_input(lines, scratch, session)? {
         LineInput::Fault(id, refusal) => Ok(Step::Fault {
             session,
             id,
@@ -110,13 +117,17 @@ fn fault_again(lines: &mut Vec<Line>, session: u64) -> Result<Step, Fault>
 }
 
 // What the session's line gives next.
-fn next_input(lines: &mut Vec<Line>, session: u64) -> Result<LineInput, Fault>
+fn next_input(
+    lines: &mut Vec<Line>,
+    scratch: &mut Scratch,
+    session: u64,
+) -> Result<LineInput, Fault>
     ensures { IfOk result (GivesInput session lines.old.items lines.new.items) }
 {
     if session == 0 || session > lines.len() as u64 {
         return Err(Fault::Differs);
     }
-    match lines[session as usize - 1].next()? {
+    match lines[session as usize - 1].next_with(scratch)? {
         Next::Input(input) => Ok(input),
         Next::More | Next::Closed => Err(Fault::Differs),
     }

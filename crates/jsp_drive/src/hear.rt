@@ -9,7 +9,7 @@ ghost use Rattle.jsp_drive.specs.Line.{IsHeardAs, input_of, is_line_input, versi
 use jsp_model::Input;
 use jsp_reply::Refusal;
 use jsp_types::NoMemory;
-use jsp_wire::{Ask, Asked, Version, WireFault, read_ask_in};
+use jsp_wire::{Ask, Asked, Scratch, Version, WireFault, read_ask_with};
 use std::alloc::Global;
 
 /// What a session asks, without the session's number.
@@ -62,12 +62,17 @@ fn version_asked(ask: &Ask, version: Version) -> Version
 }
 
 /// What a session asks by a payload on a line of this version: its request, or its one fault.
-pub(crate) fn hear(alloc: Global, version: Version, payload: &[u8]) -> Result<LineInput, NoMemory>
+pub(crate) fn hear(
+    alloc: Global,
+    version: Version,
+    payload: &[u8],
+    scratch: &mut Scratch,
+) -> Result<LineInput, NoMemory>
     ensures heard { IfOk result (IsHeardAs version payload.now) }
     ensures behind { IfOk result (λ x. version_by version x ≡ version_after version payload.now) }
     ensures input { IfOk result (λ x. IsTrue (is_line_input x)) }
 {
-    match read_ask_in(alloc, version, payload) {
+    match read_ask_with(alloc, version, payload, scratch) {
         Ok(asked) => Ok(LineInput::Ask(asked)),
         Err(WireFault::BadJson) => Ok(LineInput::Fault(None, Refusal::BadJson)),
         Err(WireFault::BadRequest { id }) => Ok(LineInput::Fault(id, Refusal::BadRequest)),

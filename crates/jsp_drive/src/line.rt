@@ -9,7 +9,7 @@ use crate::hear::{LineInput, hear};
 use jsp_frame::{Cut, Unframer};
 use jsp_reply::Refusal;
 use jsp_types::NoMemory;
-use jsp_wire::Version;
+use jsp_wire::{Scratch, Version};
 use std::alloc::Global;
 use std::marker::Model;
 
@@ -120,12 +120,28 @@ impl Line {
         ensures out_of_memory { IsOutOfMemory self.old → IsErr result }
         ensures err { OnErr result (IsOutOfMemory self.new) }
     {
+        self.next_with(&mut Scratch::new(self.alloc))
+    }
+
+    /// The same, in a scratch space that is kept from frame to frame.
+    pub fn next_with(&mut self, scratch: &mut Scratch) -> Result<Next, NoMemory>
+        ensures ok { IfOk result (λ next. Answers self.old next self.new) }
+        // By the stream: this is what the session asks next, and all was given where it is no input.
+        ensures stream { IfOk result (λ next. FollowsStream self.old next self.new) }
+        // What is given may be acted.
+        ensures input { IfOk result (λ next. IsTrue (is_next next)) }
+        ensures no_frame { IsOpen self.old
+            → HasNoFrame (longest self.old.version) self.old.rest → IsOk result }
+        ensures closed { IsClosed self.old → IsOk result }
+        ensures out_of_memory { IsOutOfMemory self.old → IsErr result }
+        ensures err { OnErr result (IsOutOfMemory self.new) }
+    {
         match self.phase {
             Phase::NoMemory => return Err(NoMemory),
             Phase::Closed => return Ok(Next::Closed),
             Phase::Open => {}
         }
-        match hear_next(self.alloc, self.version, &mut self.frames) {
+        match hear_next(self.alloc, self.version, &mut self.frames, scratch) {
             Ok(Next::Input(input)) => {
                 let version = input.version_behind(self.version);
                 self.frames.widen(limit(version));
@@ -147,14 +163,19 @@ impl Line {
 
 /// What is asked by the next frame, which is cut off. `Closed` says that its length is past the
 /// limit.
-fn hear_next(alloc: Global, version: Version, frames: &mut Unframer) -> Result<Next, NoMemory>
+fn hear_next(
+    alloc: Global,
+    version: Version,
+    frames: &mut Unframer,
+    scratch: &mut Scratch,
+) -> Result<Next, NoMemory>
     requires { IsCutting version frames.old }
     ensures ok { IfOk result (λ next. HearsNext version frames.old next frames.new) }
     ensures input { IfOk result (λ next. IsTrue (is_next next)) }
     ensures no_frame { HasNoFrame (longest version) frames.old.rest → IsOk result }
 {
     match frames.next()? {
-        Cut::Frame(payload) => Ok(Next::Input(hear(alloc, version, payload.as_slice())?)),
+        Cut::Frame(payload) => Ok(Next::Input(hear(alloc, version, payload.as_slice(), scratch)?)),
         Cut::More => Ok(Next::More),
         Cut::TooLong => Ok(Next::Closed),
     }

@@ -10,6 +10,7 @@ use crate::serve::{act_on, serve};
 use crate::stop::no_memory;
 use jsp_model::{House, Input, Step};
 use jsp_types::NoMemory;
+use jsp_wire::Scratch;
 use std::alloc::Global;
 
 /// Makes the steps of an act. What they say isn't handed out yet.
@@ -17,6 +18,7 @@ pub(crate) fn perform<H: House>(
     alloc: Global,
     house: &mut H,
     lines: &mut Lines,
+    scratch: &mut Scratch,
     act: &Act,
     steps: &mut Vec<Step>,
 ) -> Result<(), NoMemory>
@@ -27,7 +29,9 @@ pub(crate) fn perform<H: House>(
 {
     match act {
         Act::Open { session } => act_on(house, Input::Open { session: *session }, steps),
-        Act::Piece { session, bytes } => piece(alloc, house, lines, *session, bytes, steps),
+        Act::Piece { session, bytes } => piece(
+            alloc, house, lines, scratch, *session, bytes, steps,
+        ),
         Act::Shut { session } => shut(house, lines, *session, steps),
         Act::Clock { time } => act_on(house, Input::Clock { time: *time }, steps),
         Act::Settle => settle(house, steps),
@@ -38,6 +42,7 @@ fn piece<H: House>(
     alloc: Global,
     house: &mut H,
     lines: &mut Lines,
+    scratch: &mut Scratch,
     session: u64,
     bytes: &Vec<u8>,
     steps: &mut Vec<Step>,
@@ -52,7 +57,7 @@ fn piece<H: House>(
     }
     let mut line = take_line(alloc, lines, session);
     line.feed(bytes.as_slice())?;
-    serve(house, session, &mut line, steps)?;
+    serve(house, session, &mut line, scratch, steps)?;
     if house.is_open(session) {
         put_line(lines, session, line)?;
     }

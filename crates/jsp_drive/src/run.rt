@@ -12,6 +12,7 @@ use crate::perform::perform;
 use crate::send::send_all;
 use jsp_model::{Config, House};
 use jsp_types::NoMemory;
+use jsp_wire::Scratch;
 use std::alloc::Global;
 use std::collections::HashMap;
 
@@ -55,10 +56,11 @@ fn drive_all<H: House>(
 {
     let mut house = house;
     let mut lines = HashMap::new(alloc);
+    let mut scratch = Scratch::new(alloc);
     let mut steps = Vec::new(alloc);
     let mut sent = Vec::new(alloc);
     for (n, act) in acts.iter().enumerate() {
-        perform(alloc, &mut house, &mut lines, act, &mut steps)?;
+        perform(alloc, &mut house, &mut lines, &mut scratch, act, &mut steps)?;
         send_all(alloc, &mut house, n, &mut steps, &mut sent)?;
     }
     Ok(Driven { sent, steps })

@@ -8,6 +8,7 @@ use crate::line::{Line, Next};
 use crate::stop::no_memory;
 use jsp_model::{House, Input, Step};
 use jsp_types::NoMemory;
+use jsp_wire::Scratch;
 
 /// Acts an input, and what follows from it by itself.
 pub(crate) fn act_on<H: House>(
@@ -31,6 +32,7 @@ pub(crate) fn serve<H: House>(
     house: &mut H,
     session: u64,
     line: &mut Line,
+    scratch: &mut Scratch,
     steps: &mut Vec<Step>,
 ) -> Result<(), NoMemory>
     requires line { IsOpen line.old }
@@ -39,7 +41,7 @@ pub(crate) fn serve<H: House>(
     ensures serves { OnOk result (Serves session (H.view house.old) (H.view house.new) steps.old.items steps.new.items line.old line.new) }
 {
     'frames: while house.is_open(session) {
-        match line.next()? {
+        match line.next_with(scratch)? {
             Next::Input(input) => act_on(house, input.of_session(session), steps)?,
             Next::More | Next::Closed => return Ok(()),
         }

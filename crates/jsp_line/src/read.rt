@@ -20,7 +20,7 @@ use jsp_drive::{Line, LineInput, Next};
 use jsp_kept::{AskSeat, Backlog};
 use jsp_model::Why;
 use jsp_reply::Refusal;
-use jsp_wire::Ask;
+use jsp_wire::{Ask, Scratch};
 use std::alloc::Global;
 use std::io::{Read, Write};
 use std::sync::ledger::Ledger;
@@ -45,6 +45,8 @@ pub struct ReadDone<A: Ledger> {
 pub(crate) struct Course {
     /// What the next read is put in.
     piece: [u8; PIECE],
+    /// Where payloads are read.
+    scratch: Scratch,
     /// How many bytes were read since the last act.
     bytes: u64,
     /// Whether an era was seen to be sealed.
@@ -154,7 +156,7 @@ impl<H: Backlog, A: Ledger, O: Ledger, G: Gate, C: Clock, T: Wait + time::Clock>
         ensures early { IfSome result (λ ended. is_acted ended ≡ false) }
     {
         for _ in self.rt.forever() {
-            match line.next() {
+            match line.next_with(&mut course.scratch) {
                 Ok(Next::Input(given)) => {
                     if let Some(ended) = self.act_one(half, seat, course, given) {
                         return Some(ended);
@@ -244,6 +246,7 @@ impl<H: Backlog, A: Ledger, O: Ledger, G: Gate, C: Clock, T: Wait + time::Clock>
         let mut transcript = Transcript::new(self.alloc);
         let mut course = Course {
             piece: [0; PIECE],
+            scratch: Scratch::new(self.alloc),
             bytes: 0,
             is_sealed: false,
             why: None,

@@ -27,7 +27,8 @@ pub use ask::{
 };
 pub use asked::Asked;
 pub use fault::WireFault;
-pub use read::{read_ask, read_ask_in};
+pub use json::Scratch;
+pub use read::{read_ask, read_ask_in, read_ask_with};
 
 #[cfg(test)]
 mod tests;

@@ -19,6 +19,9 @@ use crate::{Ask, Asked, Declare, Notify, Request, Search, Version, Write};
 use json::Scratch;
 use std::alloc::Global;
 
+/// The longest payload that is read in a scratch space that is kept, which grows to its length.
+const KEPT_ROOM: usize = 4096;
+
 #[tactic(auto, unfolding(crate::specs::Operations::declare_of))]
 fn declare(alloc: Global, json: &Tree<'_>) -> Result<Ask, Flaw>
     ensures { Gives result (declare_of (view json.now)) }
@@ -252,11 +255,38 @@ pub fn read_ask(alloc: Global, payload: &[u8]) -> Result<Asked, WireFault>
 /// numbers. A line of version 2 has the operations of version 1 and `write_all`, `take_many`,
 /// `contents`, `next` and `close_set`. The limits of a request are those of [`Asked`]. The
 /// operations, their keys and these limits are this profile's own.
-#[tactic(auto, unfolding(crate::specs::Reading::reading))]
 pub fn read_ask_in(alloc: Global, version: Version, payload: &[u8]) -> Result<Asked, WireFault>
     ensures { Answers result (reading version payload.now) }
 {
-    match parse(alloc, payload, &mut Scratch::new(alloc)) {
+    read_within(alloc, version, payload, &mut Scratch::new(alloc))
+}
+
+/// The same, in a scratch space that is kept from payload to payload. It keeps room for a payload of
+/// 4,096 bytes; a longer one is read in a space of its own.
+pub fn read_ask_with(
+    alloc: Global,
+    version: Version,
+    payload: &[u8],
+    scratch: &mut Scratch,
+) -> Result<Asked, WireFault>
+    ensures { Answers result (reading version payload.now) }
+{
+    if payload.len() > KEPT_ROOM {
+        return read_ask_in(alloc, version, payload);
+    }
+    read_within(alloc, version, payload, scratch)
+}
+
+#[tactic(auto, unfolding(crate::specs::Reading::reading))]
+fn read_within(
+    alloc: Global,
+    version: Version,
+    payload: &[u8],
+    scratch: &mut Scratch,
+) -> Result<Asked, WireFault>
+    ensures { Answers result (reading version payload.now) }
+{
+    match parse(alloc, payload, scratch) {
         Ok(json) => request_or_fault(alloc, version, &json),
         Err(Flaw::Memory) => Err(WireFault::NoMemory),
         Err(Flaw::Refused) => Err(WireFault::BadJson),

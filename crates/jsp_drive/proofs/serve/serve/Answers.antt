@@ -8,7 +8,7 @@ pub frames-init : goal.frames-init
 frames-init g c = (refl, goes_start _ _ _ _ c.requires.line)
 
 pub frames-smaller : goal.frames-smaller
-frames-smaller g c = less_left c.frames.line c.next.new.self c.in-Input.input (rw c.in-Input.is at c.in_ok-input.ensures.ok)
+frames-smaller g c = less_left c.frames.line c.next_with.new.self c.in-Input.input (rw c.in-Input.is at c.in_ok-input.ensures.ok)
 
 pub frames-preserved : goal.frames-preserved
 frames-preserved g c =
