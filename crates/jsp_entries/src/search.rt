@@ -64,6 +64,10 @@ fn refuse_to_wait(
     if is_negative(asked) {
         return Ok(Some(Refusal::BadTimeout));
     }
+    // Of one that doesn't want to wait nothing needs to be counted.
+    if named(asked.timeout) == 0 {
+        return Ok(None);
+    }
     let Some(refusal) = why_none_waits(state, session) else {
         return Ok(None);
     };
