@@ -12,6 +12,30 @@ pub(crate) fn next_of_few(numbers: &[u64], number: u64) -> Option<u64>
     numbers.get(place_above(numbers, number)).copied()
 }
 
+/// The same, first looked for at this place, which is then the place of what was found.
+pub(crate) fn next_of_few_from(numbers: &[u64], place: &mut usize, number: u64) -> Option<u64>
+    requires { AreIncreasing numbers.now }
+    ensures { result ≡ find (nat_lt number) numbers.now }
+{
+    let found = place_from(numbers, *place, number);
+    *place = found.saturating_add(1);
+    numbers.get(found).copied()
+}
+
+/// The place of the first number above this one, which is this one where the number stands before it.
+fn place_from(numbers: &[u64], place: usize, number: u64) -> usize
+    requires { AreIncreasing numbers.now }
+    ensures within { result ≤ length numbers.now }
+    ensures before { (k : ℕ) → k < result → slice_index numbers.now k ≤ number }
+    ensures beyond { (k : ℕ) → result ≤ k → k < length numbers.now → number < slice_index numbers.now k }
+{
+    if 0 < place && place <= numbers.len() && numbers[place - 1] == number {
+        place
+    } else {
+        place_above(numbers, number)
+    }
+}
+
 /// The place of the first number above this one, or the length where there is none.
 fn place_above(numbers: &[u64], number: u64) -> usize
     requires { AreIncreasing numbers.now }

@@ -357,7 +357,8 @@ fn first_named<'a, T, N: Numbering<T>, P: Test<T>>(
     ensures { option_copied result ≡ find (is_hit N.number_of (P.is_passed test.now) numbers.now after) table.now }
 {
     let mut last = after;
-    'numbers: while let Some(number) = numbers.next_above(last) {
+    let mut place = 0;
+    'numbers: while let Some(number) = numbers.next_from(&mut place, last) {
         if let Some(thing) = table.get(number) {
             if test.passes(thing) {
                 return Some(thing);
