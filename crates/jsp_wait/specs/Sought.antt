@@ -8,6 +8,10 @@ use Rattle.jsp_model.specs.Sight.{is_if}
 use Rattle.jsp_keyed.specs.Keys.{number_key, session_key, transaction_key}
 use Rattle.jsp_keyed.specs.Templates.{template_key, entry_keys}
 
+-- of the one that a session asked under an id
+abbrev pub asked_key : ℕ → ℕ → ℕ → ℕ
+asked_key seed session id = number_key (number_key seed 9 session) 9 id
+
 -- of those at a space that are under a transaction
 abbrev pub under_key : ℕ → ℕ → ℕ
 under_key seed space = number_key seed 6 space
@@ -27,8 +31,12 @@ under_or seed b = if is_some b.transaction then under_key seed b.space else sess
 abbrev pub if_or : ℕ → Blocked → ℕ
 if_or seed b = if is_if b.form then if_key seed b.space else session_key seed b.session
 
+-- those that it shares with others
+abbrev pub shared_keys : ℕ → Blocked → List ℕ
+shared_keys seed b = session_key seed b.session ∷ caller_key seed b ∷ under_or seed b ∷ if_or seed b ∷ map (template_key seed b.space) b.templates
+
 abbrev pub request_keys : ℕ → Blocked → List ℕ
-request_keys seed b = session_key seed b.session ∷ caller_key seed b ∷ under_or seed b ∷ if_or seed b ∷ map (template_key seed b.space) b.templates
+request_keys seed b = asked_key seed b.session b.id ∷ shared_keys seed b
 
 abbrev pub row_keys : ℕ → List Class → Row → List ℕ
 row_keys seed classes row = entry_keys seed classes row.space row.entry

@@ -3,9 +3,9 @@ ghost use Rattle.std.specs.Prelude.{◌==◌, ◌&&◌, [], ◌∷◌, map, is_s
 ghost use Rattle.std.specs.List.{list_any};
 ghost use Rattle.jsp_model.specs.Lookup.{is_caller as calls};
 ghost use Rattle.jsp_keyed.specs.Keys.{session_key, transaction_key};
-ghost use Rattle.jsp_wait.specs.Sought.{under_key};
+ghost use Rattle.jsp_wait.specs.Sought.{asked_key, under_key};
 
-use crate::by_number::key_of_under;
+use crate::by_number::{key_of_asked, key_of_under};
 use crate::scanned::is_under;
 use jsp_keyed::{Keys, key_of_session, key_of_transaction};
 use jsp_model::Blocked;
@@ -54,14 +54,14 @@ impl Test<Blocked> for Asked {
 }
 
 impl Keys for Asked {
-    ghost sought = { λ t seed. session_key seed t.session ∷ [] };
+    ghost sought = { λ t seed. asked_key seed t.session t.id ∷ [] };
 
     fn sought_count(&self, _seed: u64) -> usize {
         1
     }
 
     fn sought_key(&self, seed: u64, _place: usize) -> u64 {
-        key_of_session(seed, self.session)
+        key_of_asked(seed, self.session, self.id)
     }
 }
 
