@@ -1,6 +1,6 @@
 -- Numbers that are named under keys stay so.
 use Rattle.std.proofs.Common.{◌≡◌, ℕ, ◌+◌, ◌<◌, Bool, true, false, ◌||◌, ◌&&◌, eqb, nat_lt, List, [], ◌∷◌, ◌++◌, length, take, get_or, refl, ap, sym, ◌∙◌, inl, inr, ◌⊎◌}
-use Rattle.std.specs.Prelude.{slice_index, nat_eq, Some, None, find}
+use Rattle.std.specs.Prelude.{slice_index, nat_eq, Option, Some, None, find}
 use Rattle.std.specs.List.{AllByRecursion, list_any}
 use Rattle.std.specs.Option.{option_map_or}
 use Rattle.std.specs.HashMap.{HashMap, get}
@@ -8,11 +8,11 @@ use Rattle.std.proofs.lemmas.List.{take_more}
 use Rattle.jsp_table.specs.Numbers.{names, contains}
 use Rattle.jsp_table.specs.Finding.{is_hit, AreNumbered, AreNamed as AreNamedBy}
 use Rattle.jsp_table.proofs.Rising.{or_cases}
-use Rattle.jsp_table.proofs.Finding.{each}
+use Rattle.jsp_table.proofs.Finding.{each, both}
 use Rattle.jsp_keyed.specs.Finding.{is_next, is_sought, IsLeast}
 use Rattle.jsp_keyed.specs.Kept.{IsNamed, Keeps}
 use Rattle.jsp_keyed.proofs.Walking.{and_both, eqb_eq}
-use Rattle.jsp_keyed.proofs.Least.{found_least, least_among}
+use Rattle.jsp_keyed.proofs.Least.{found_least, least_among, least_first}
 
 pub All-append : {X : Type 0} (P : X → Type 0) (xs ys : List X) → AllByRecursion P xs → AllByRecursion P ys → AllByRecursion P (xs ++ ys)
 All-append P [] ys h k = k
@@ -102,3 +102,16 @@ module _ {T : Type 0} (num : T → ℕ) (keys : T → List ℕ) {S : Type 0} (hi
   kind_none numbers xs none have named =
       each (λ x. IsNamed hints (num x) (keys x)) (λ x. kind x ≡ true → contains numbers (num x) ≡ true) xs named
       (λ x h k. absurd (cc (not_named hints key (num x) none, kind_named have x h k)))
+
+-- where all that pass are named, the first that is named and passes is the first that passes
+pub first_of_named : {T : Type 0} (num : T → ℕ) (passed : T → Bool) (last : ℕ) (ns : List ℕ) (xs : List T) (o : Option T) → AreNumbered num xs → AreNamedBy num passed ns xs
+    → ((kind : T → Bool) → AreNamedBy num kind ns xs → IsLeast num (is_next num passed last) kind xs o) → o ≡ find (is_next num passed last) xs
+first_of_named num passed last ns xs o up named least =
+    least_first num (is_next num passed last) passed xs o up (λ x h. (and_both (nat_lt last (num x)) (passed x) h).1) (least passed named)
+
+-- what has a key that is sought and passes is among the numbers that were gathered
+pub gathered : {T S : Type 0} (num : T → ℕ) (passed : T → Bool) (keys : T → List ℕ) (hints : HashMap ℕ (List ℕ) S) (sought ns : List ℕ) (xs : List T) → ((x : T) → passed x ≡ true → is_sought sought (keys x) ≡ true)
+    → AllByRecursion (λ x. IsNamed hints (num x) (keys x)) xs → AllByRecursion (λ x. passed x ≡ true → list_any (λ k. names hints k (num x)) sought ≡ true → contains ns (num x) ≡ true) xs → AreNamedBy num passed ns xs
+gathered num passed keys hints sought ns xs seeks named known =
+    both (λ x. IsNamed hints (num x) (keys x)) (λ x. passed x ≡ true → list_any (λ k. names hints k (num x)) sought ≡ true → contains ns (num x) ≡ true) (λ x. passed x ≡ true → contains ns (num x) ≡ true) xs named known
+    (λ x h known e. known e (sought_named hints (num x) (keys x) sought h (seeks x e)))

@@ -1,10 +1,11 @@
 -- Those that pass change one after the other, and change back.
-use Rattle.std.proofs.Common.{◌≡◌, ◌≢◌, ℕ, ◌<◌, ◌≤◌, Bool, true, false, cond, eqb, ◌&&◌, nat_lt, List, [], ◌∷◌, map, Option, Some, None, refl, ap, sym, ◌∙◌, subst, arith, inl, inr, ◌⊎◌}
+use Rattle.std.proofs.Common.{◌≡◌, ◌≢◌, ℕ, ◌<◌, ◌≤◌, Bool, true, false, cond, eqb, ◌&&◌, nat_lt, List, [], ◌∷◌, map, Some, None, refl, ap, sym, ◌∙◌, subst, arith, inl, inr}
 use Rattle.std.specs.Prelude.{find, nat_le}
 use Rattle.std.specs.List.{AllByRecursion}
 use Rattle.std.proofs.lemmas.Bool.{cases_order, eq-eqb, ne_eqb}
 use Rattle.std.proofs.lemmas.Bool.Decides.{nat_tests}
-use Rattle.jsp_table.specs.Finding.{AreNumbered}
+use Rattle.jsp_table.specs.Numbers.{contains}
+use Rattle.jsp_table.specs.Finding.{AreNumbered, AreNamed}
 use Rattle.jsp_table.proofs.Finding.{each}
 use Rattle.jsp_keyed.specs.Finding.{is_next, IsUpTo, IsLeast}
 use Rattle.jsp_keyed.specs.Changing.{IsUndone, where_passed}
@@ -123,6 +124,15 @@ module _ {T : Type 0} (num : T → ℕ) (passed : T → Bool) (changed : T → T
         → map (up_to last) (y ∷ xs) ≡ map (where_passed passed changed) (y ∷ xs)
     at true e rest = absurd (cc (h, ap (λ b. cond b (Some (up_to last y)) (find (is_next num passed last) (map (up_to last) xs))) e))
     at false e rest = same_lists (stays (nat_le (num y) last) refl e) (rest (h ∙ ap (λ b. cond b (Some (up_to last y)) (find (is_next num passed last) (map (up_to last) xs))) e))
+
+  -- what passes stays named
+  pub still_named : ((x : T) → num (changed x) ≡ num x) → (last : ℕ) (ns : List ℕ) (xs : List T) → AreNamed num passed ns xs → AreNamed num passed ns (map (up_to last) xs)
+  still_named keeps last ns [] h = tt
+  still_named keeps last ns (x ∷ xs) h = (at (nat_le (num x) last) (passed x) refl, still_named keeps last ns xs h.1) where
+    at : (b c : Bool) → passed x ≡ c → passed (cond b (cond c (changed x) x) x) ≡ true → contains ns (num (cond b (cond c (changed x) x) x)) ≡ true
+    at true true e p = rw (keeps x) (h.0 e)
+    at true false e p = h.0 p
+    at false c e p = h.0 p
 
   -- ---- back
 

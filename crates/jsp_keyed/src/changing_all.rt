@@ -1,10 +1,11 @@
 //! Those that pass a test change in place.
 ghost use Rattle.std.specs.Prelude.{◌≡◌, ◌&&◌, nat_le, ℕ, true, map, OnOk, OnErr};
+ghost use Rattle.jsp_table.specs.Finding.{AreNamed};
 ghost use Rattle.jsp_keyed.specs.Finding.{is_sought};
 ghost use Rattle.jsp_keyed.specs.Changing.{HasSameKeys, IsUndone, where_passed};
 
 use crate::{Keyed, Keying, Keys, NoMemory};
-use jsp_table::{Change, Numbering, Test, TryChange};
+use jsp_table::{Change, Numbering, Numbers, Test, TryChange};
 use std::marker::PhantomData;
 
 impl<T, K: Numbering<T> + Keying<T>> Keyed<T, K> {
@@ -42,6 +43,36 @@ impl<T, K: Numbering<T> + Keying<T>> Keyed<T, K> {
         let _ = self.places();
         let mut last = 0;
         'things: while let Some(thing) = self.first_above(last, test) {
+            let number = K::number(thing);
+            if let Err(e) = self.try_change(number, change) {
+                self.change_all(&UpTo::<K, P>::of(last, test), undo);
+                return Err(e);
+            }
+            last = number;
+        }
+        Ok(())
+    }
+
+    /// The same, where each that passes the test is named.
+    pub fn try_change_named<P: Test<T> + Keys, C: TryChange<T>, U: Change<T>>(
+        &mut self,
+        numbers: &Numbers,
+        test: &P,
+        change: &C,
+        undo: &U,
+    ) -> Result<(), NoMemory>
+        requires named { AreNamed K.number_of (P.is_passed test.now) numbers.now self.old }
+        requires seeks { (seed : ℕ) (x : T) → P.is_passed test.now x ≡ true → is_sought (P.sought test.now seed) (K.keys_of seed x) ≡ true }
+        requires keeps { (x : T) → HasSameKeys K.number_of K.keys_of K.end_of x (C.changed change.now x) }
+        requires keeps_back { (x : T) → HasSameKeys K.number_of K.keys_of K.end_of x (U.changed undo.now x) }
+        requires undone { IsUndone (P.is_passed test.now) (C.changed change.now) (U.changed undo.now) }
+        ensures ok { OnOk result (self.new ≡ map (where_passed (P.is_passed test.now) (C.changed change.now)) self.old) }
+        ensures err { OnErr result (self.new ≡ self.old) }
+    {
+        // Which says that no number is 0.
+        let _ = self.places();
+        let mut last = 0;
+        'things: while let Some(thing) = self.first_named(numbers, last, test) {
             let number = K::number(thing);
             if let Err(e) = self.try_change(number, change) {
                 self.change_all(&UpTo::<K, P>::of(last, test), undo);

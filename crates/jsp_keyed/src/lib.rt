@@ -22,6 +22,7 @@ mod keying;
 mod keys;
 mod listing;
 mod naming;
+mod passing;
 mod slots;
 mod templates;
 mod under;

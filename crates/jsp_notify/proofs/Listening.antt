@@ -1,10 +1,10 @@
 -- Registrations that are owed an event stay named at their spaces.
-use Rattle.std.proofs.Common.{◌≡◌, ◌≢◌, ℕ, suc, ◌-◌, ◌<◌, take, drop, Bool, true, false, not, cond, eqb, ◌&&◌, List, [], ◌∷◌, ◌++◌, length, map, Option, Some, None, refl, ap, sym, ◌∙◌, subst, arith, inl, inr}
+use Rattle.std.proofs.Common.{◌≡◌, ◌≢◌, ℕ, suc, ◌-◌, ◌<◌, take, drop, Bool, true, false, not, cond, eqb, ◌&&◌, List, [], ◌∷◌, ◌++◌, length, map, Option, Some, None, refl, ap, sym, ◌∙◌, subst, arith}
 use Rattle.std.specs.Prelude.{filter, find, nat_eq, nat_lt, is_none, ◌==◌, ◌||◌}
 use Rattle.std.specs.List.{AllByRecursion, list_all}
 use Rattle.std.specs.Option.{option_map_or}
 use Rattle.std.specs.HashMap.{HashMap, get}
-use Rattle.std.proofs.lemmas.Bool.{cases_eq, eq-eqb, ne_eqb}
+use Rattle.std.proofs.lemmas.Bool.{eq-eqb, ne_eqb}
 use Rattle.std.proofs.lemmas.Bool.Decides.{nat_tests}
 use Rattle.jsp_types.specs.declared.class.Class.{Class}
 use Rattle.jsp_types.specs.Matching.{matches}
@@ -12,7 +12,7 @@ use Rattle.jsp_model.specs.Sight.{is_free}
 use Rattle.jsp_model.specs.declared.state.Row.{Row}
 use Rattle.jsp_model.specs.declared.state.Registration.{Registration}
 use Rattle.jsp_table.specs.Numbers.{names, contains}
-use Rattle.jsp_table.specs.Finding.{numbered, is_hit, AreNumbered}
+use Rattle.jsp_table.specs.Finding.{numbered, is_hit, AreNumbered, AreNamed as AreNamedBy}
 use Rattle.jsp_table.proofs.Finding.{each, both}
 use Rattle.jsp_keyed.specs.Kept.{Keeps, KeepsOthers}
 use Rattle.jsp_keyed.specs.Changing.{where_passed}
@@ -81,6 +81,14 @@ module _ {S : Type 0} where
       let here = (and_both (is_free r.transaction caller) (r.space == row.space && matches classes r.template row.entry) e).1 in
       let same = (and_both (r.space == row.space) (matches classes r.template row.entry) here).0 in
       subst (λ (s : ℕ). names hints s r.number ≡ true) (sym (eqb_eq r.space row.space same)) h
+
+  -- those to which a row is news are among the listeners, who are named at its space
+  pub listeners_named : (hints : HashMap ℕ (List ℕ) S) (classes : List Class) (caller : Option ℕ) (row : Row) (listeners : List ℕ) (rs : List Registration) → AllByRecursion (λ r. 0 < number r) rs
+      → AreNamedBy number (λ r. is_news classes caller r row) listeners rs → ((n : ℕ) → 0 < n → contains listeners n ≡ true → names hints row.space n ≡ true)
+      → AllByRecursion (λ r. is_news classes caller r row ≡ true → names hints r.space r.number ≡ true) rs
+  listeners_named hints classes caller row listeners rs positive among named =
+      both (λ r. 0 < number r) (λ r. is_news classes caller r row ≡ true → contains listeners (number r) ≡ true) (λ r. is_news classes caller r row ≡ true → names hints r.space r.number ≡ true) rs positive among
+      (λ r up there e. at_its_space hints classes caller row r e (named r.number up (there e)))
 
   -- ---- who is owed an event at a space
 

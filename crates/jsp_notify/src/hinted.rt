@@ -133,9 +133,10 @@ impl HintedRegistrations {
             caller,
         };
         let number = row.number;
-        name_listeners(self.alloc, &mut self.owed, &self.registrations, &news)?;
+        let listeners = self.registrations.passing(&news)?;
+        name_listeners(self.alloc, &mut self.owed, row.space, &listeners)?;
         self.registrations
-            .try_change_all(&news, &Owing { number }, &Forgiving {})?;
+            .try_change_named(&listeners, &news, &Owing { number }, &Forgiving {})?;
         Ok(())
     }
 

@@ -1,15 +1,12 @@
 //! Registrations that are owed an event, named by their spaces.
-ghost use Rattle.std.specs.Prelude.{◌≡◌, true, OnOk};
-ghost use Rattle.std.specs.List.{AllByRecursion};
-ghost use Rattle.jsp_table.specs.Numbers.{names};
+ghost use Rattle.std.specs.Prelude.{◌≡◌, ◌<◌, ℕ, true, OnOk};
+ghost use Rattle.jsp_table.specs.Numbers.{contains, names};
 ghost use Rattle.jsp_keyed.specs.Kept.{Keeps, KeepsOthers};
-ghost use Rattle.jsp_notify.specs.Owing.{is_news};
 ghost use Rattle.jsp_notify.specs.Waiting.{IsNamed, AreNamed};
 
-use crate::asking::News;
-use crate::by_number::{ByNumber, Found};
+use crate::by_number::Found;
 use jsp_model::Registration;
-use jsp_table::{Hints, Numbering, add_hint, drop_hint};
+use jsp_table::{Hints, Numbers, add_hint, drop_hint};
 use jsp_types::NoMemory;
 use std::alloc::Global;
 
@@ -28,24 +25,20 @@ pub(crate) fn name_owed(
     add_hint(alloc, owed, registration.space, registration.number)
 }
 
-/// Names each registration at its space to which the row is news. Nothing goes from any list, on `Err`
-/// either.
+/// Names these at a space. Nothing goes from any list, on `Err` either.
 pub(crate) fn name_listeners(
     alloc: Global,
     owed: &mut Hints,
-    registrations: &Found,
-    news: &News,
+    space: u64,
+    listeners: &Numbers,
 ) -> Result<(), NoMemory>
-    ensures ok { OnOk result (AllByRecursion (λ r. is_news news.now.classes.now news.now.caller r news.now.row.now ≡ true → names owed.new r.space r.number ≡ true) registrations.now) }
+    ensures ok { OnOk result ((n : ℕ) → 0 < n → contains listeners.now n ≡ true → names owed.new space n ≡ true) }
     ensures keeps { Keeps owed.old owed.new }
 {
-    // Which says that no number is 0.
-    let _ = registrations.places();
-    let space = news.row.space;
     let mut last = 0;
-    'registrations: while let Some(registration) = registrations.first_above(last, news) {
-        last = ByNumber::number(registration);
-        add_hint(alloc, owed, space, last)?;
+    'listeners: while let Some(number) = listeners.next_above(last) {
+        add_hint(alloc, owed, space, number)?;
+        last = number;
     }
     Ok(())
 }

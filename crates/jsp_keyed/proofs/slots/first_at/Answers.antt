@@ -1,7 +1,6 @@
-use Rattle.std.proofs.Common.{◌≡◌, ◌<◌, Some, None, [], ◌∷◌, length, take, get_or, ap, sym, ◌∙◌, arith, rules}
+use Rattle.std.proofs.Common.{◌≡◌, Some, None, [], ◌∷◌, take, get_or, ap, sym, ◌∙◌, arith, rules}
 use Rattle.std.specs.Prelude.{find}
 use Rattle.std.proofs.lemmas.Grind.{common_steps}
-use Rattle.std.proofs.lemmas.List.{take_all}
 use Rattle.jsp_table.specs.Places.{living}
 use Rattle.jsp_keyed.proofs.Placed.{found_at, living_more, none_passes_more}
 use Rattle.jsp_keyed.proofs.slots.first_at.Goals as goal

@@ -1,17 +1,13 @@
-use Rattle.std.proofs.Common.{◌≡◌, ◌-◌, ◌^◌, true}
-use Rattle.std.specs.List.{AllByRecursion}
-use Rattle.jsp_table.specs.Numbers.{names}
+use Rattle.std.proofs.Common.{◌≡◌, ℕ, ◌<◌, ◌≤◌, ◌-◌, ◌^◌, true}
+use Rattle.jsp_table.specs.Numbers.{contains, names}
 use Rattle.jsp_keyed.specs.Kept.{Keeps}
-use Rattle.jsp_keyed.proofs.Gathering.{IsKnown}
-use Rattle.jsp_notify.proofs.Listening.{number}
-use Rattle.jsp_notify.proofs.Owed.{hears}
 use Rattle.jsp_notify.proofs.naming.name_listeners.Given as goal
 
-abbrev pub invariant-registrations : goal.invariant-registrations
-invariant-registrations l = record {
+abbrev pub invariant-listeners : goal.invariant-listeners
+invariant-listeners l = record {
   keeps : Keeps l.fn.owed l.owed;
-  known : AllByRecursion (IsKnown number (hears l.news.classes.now l.news.caller l.news.row.now) (λ r. names l.owed l.space r.number ≡ true) l.last) l.registrations;
+  known : (n : ℕ) → 0 < n → n ≤ l.last → contains l.listeners n ≡ true → names l.owed l.space n ≡ true;
 }
 
-abbrev pub decreases-registrations : goal.decreases-registrations
-decreases-registrations l = 2 ^ 64 - l.last
+abbrev pub decreases-listeners : goal.decreases-listeners
+decreases-listeners l = 2 ^ 64 - l.last

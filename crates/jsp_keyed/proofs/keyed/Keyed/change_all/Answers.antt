@@ -1,4 +1,4 @@
-use Rattle.std.proofs.Common.{◌≡◌, ℕ, ◌==◌, List, Some, None, map, ap, sym, subst, ◌∙◌, cond, eqb, arith}
+use Rattle.std.proofs.Common.{◌≡◌, ℕ, Some, map, ap, sym, subst, ◌∙◌, cond, eqb, arith}
 use Rattle.jsp_keyed.proofs.Walking.{found_is_above}
 use Rattle.jsp_keyed.proofs.Sweeping.{up_to, next_changes, none_changed, all_changed}
 use Rattle.jsp_table.specs.Finding.{AreNumbered}

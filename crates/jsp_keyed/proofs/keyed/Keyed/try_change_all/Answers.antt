@@ -1,4 +1,4 @@
-use Rattle.std.proofs.Common.{◌≡◌, ℕ, ◌==◌, List, Some, None, map, ap, sym, subst, ◌∙◌, cond, eqb, arith}
+use Rattle.std.proofs.Common.{◌≡◌, ℕ, Some, map, ap, sym, subst, ◌∙◌, cond, eqb, arith}
 use Rattle.std.specs.Prelude.{find, nat_le, ◌&&◌}
 use Rattle.jsp_table.specs.Finding.{AreNumbered}
 use Rattle.jsp_keyed.specs.Finding.{is_next}

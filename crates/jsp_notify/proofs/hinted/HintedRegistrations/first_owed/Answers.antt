@@ -1,7 +1,6 @@
 use Rattle.std.proofs.Common.{◌≡◌, ◌∙◌, List, Some, None, sym, subst, arith, rules}
 use Rattle.std.specs.Prelude.{nat_eq, find, option_copied}
 use Rattle.std.specs.HashMap.{get}
-use Rattle.std.specs.List.{AllByRecursion}
 use Rattle.std.proofs.lemmas.Grind.{common_steps}
 use Rattle.jsp_model.specs.declared.state.Registration.{Registration}
 use Rattle.jsp_notify.specs.Waiting.{AreNamed}

@@ -1,4 +1,4 @@
-use Rattle.std.proofs.Common.{◌∙◌, List, sym, subst}
+use Rattle.std.proofs.Common.{List, sym, subst}
 use Rattle.jsp_model.specs.declared.state.Registration.{Registration}
 use Rattle.jsp_keyed.specs.Changing.{where_passed}
 use Rattle.jsp_notify.specs.Owing.{owed_less}

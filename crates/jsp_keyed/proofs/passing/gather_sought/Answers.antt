@@ -1,0 +1,43 @@
+use Rattle.std.proofs.Common.{◌≡◌, ℕ, true, ◌+◌, ◌<◌, List, length, [], take, inl, inr, subst, arith}
+use Rattle.std.specs.Prelude.{slice_index}
+use Rattle.std.specs.List.{AllByRecursion, list_any}
+use Rattle.std.proofs.lemmas.List.{take_all}
+use Rattle.jsp_table.specs.Numbers.{contains, names}
+use Rattle.jsp_table.proofs.Finding.{each, both}
+use Rattle.jsp_keyed.proofs.Named.{any_more}
+use Rattle.jsp_keyed.proofs.passing.gather_sought.Goals as goal
+
+pub places-init : goal.places-init
+places-init g c =
+    let num = g.K.Numbering.number_of in
+    let passed = g.P.Test.is_passed c.args.test.now in
+    each (λ (x : g.row.T.Denot). 0 < num x) (λ x. passed x ≡ true → list_any (λ k. names c.args.hints.now k (num x)) [] ≡ true → contains c.args.found.now (num x) ≡ true) c.args.table.now c.requires (λ x up e h. absurd (cc))
+
+pub places-preserved : goal.places-preserved
+places-preserved g c =
+    let num = g.K.Numbering.number_of in
+    let passed = g.P.Test.is_passed c.args.test.now in
+    let sought = g.P.Keys.sought c.args.test.now c.args.seed in
+    let hints = c.args.hints.now in
+    let i = c.places.place in
+    let old = c.places.found in
+    let new = c.gather_under.new.found in
+    let lt : i < length sought = omega (arith, c.places-test.true, c.sought_count-place-end.ensures) in
+    let here = subst (λ (key : ℕ). AllByRecursion (λ (x : g.row.T.Denot). passed x ≡ true → names hints key (num x) ≡ true → contains new (num x) ≡ true) c.args.table.now) c.sought_key-key.ensures c.in_ok-gather_under.ensures.ok in
+    both (λ (x : g.row.T.Denot). passed x ≡ true → list_any (λ k. names hints k (num x)) (take i sought) ≡ true → contains old (num x) ≡ true)
+    (λ x. passed x ≡ true → names hints (slice_index sought i) (num x) ≡ true → contains new (num x) ≡ true)
+    (λ x. passed x ≡ true → list_any (λ k. names hints k (num x)) (take (i + 1) sought) ≡ true → contains new (num x) ≡ true)
+    c.args.table.now c.places.invariant here
+    (λ x before this e h. elim (any_more (λ k. names hints k (num x)) sought i lt h) [
+      | inl a ↦ c.gather_under.ensures.keeps (num x) (before e a)
+      | inr b ↦ this e b
+    ])
+
+pub returns : goal.returns
+returns g c =
+    let num = g.K.Numbering.number_of in
+    let passed = g.P.Test.is_passed c.args.test.now in
+    let sought = g.P.Keys.sought c.args.test.now c.args.seed in
+    let hints = c.args.hints.now in
+    let all : take c.places.place sought ≡ sought = take_all c.places.place sought (omega (arith, c.places-test.false, c.sought_count-place-end.ensures)) in
+    subst (λ (w : List ℕ). AllByRecursion (λ (x : g.row.T.Denot). passed x ≡ true → list_any (λ k. names hints k (num x)) w ≡ true → contains c.places.found (num x) ≡ true) c.args.table.now) all c.places.invariant
