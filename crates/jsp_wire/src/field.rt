@@ -170,8 +170,7 @@ fn value(alloc: Global, json: &Tree<'_>) -> Result<Value, Flaw>
     }
 }
 
-/// The values of the members, in byte order of their keys, since serde_json's map keeps its keys
-/// sorted.
+/// The values of the members, in byte order of their keys.
 fn values(alloc: Global, members: &Members<'_>) -> Result<Items<(Text, Value)>, Flaw>
     ensures { Gives result (each_member value_of (members_view members.now.entries)) }
 {
