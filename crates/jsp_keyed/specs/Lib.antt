@@ -1,4 +1,5 @@
 pub mod Keys
+pub mod Words
 pub mod Templates
 pub mod Finding
 pub mod Kept

@@ -19,13 +19,13 @@ fn folded_multiply(a: u64, b: u64) -> u64
 
 /// The key and one more part. Since the halves are joined, the parts that make two keys the same
 /// can't be worked out without the seed.
-fn mix(key: u64, part: u64) -> u64
+pub(crate) fn mix(key: u64, part: u64) -> u64
     ensures { result ≡ mixed key part }
 {
     folded_multiply(key ^ part, FACTOR)
 }
 
-fn mix_bytes(key: u64, bytes: &[u8]) -> u64
+pub(crate) fn mix_bytes(key: u64, bytes: &[u8]) -> u64
     ensures { result ≡ mix_all key bytes.now }
 {
     let mut mixed = key;
@@ -47,7 +47,7 @@ fn int_code(int: &i64) -> u64
     (-(int + 1)) as u64
 }
 
-fn mix_value(key: u64, value: &Value) -> u64
+pub(crate) fn mix_value(key: u64, value: &Value) -> u64
     ensures { result ≡ value_mixed key value.now }
 {
     match value {

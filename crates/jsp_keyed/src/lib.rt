@@ -26,6 +26,7 @@ mod passing;
 mod slots;
 mod templates;
 mod under;
+mod words;
 
 pub use adding::item;
 pub use finding::lesser;
@@ -37,3 +38,4 @@ pub use keys::{
 };
 pub use slots::sooner;
 pub use templates::{count_entry_keys, entry_key, key_of_template};
+pub use words::{word_key_of_class, word_key_of_field};
