@@ -39,9 +39,9 @@ fn is_asked(commits: &[Commit], session: u64, id: u64) -> bool
 pub fn waits_for_many(state: &Core, session: u64) -> bool
     ensures { result ≡ nat_le MOST_WAITING (waiting_count state.now session) }
 {
-    let blocked = state.blocked.count_of(session);
     let commits = count_asked(state.commits.as_slice(), session);
-    MOST_WAITING <= blocked.saturating_add(commits)
+    let left = MOST_WAITING.saturating_sub(commits);
+    state.blocked.has_at_least(session, left)
 }
 
 fn count_asked(commits: &[Commit], session: u64) -> usize

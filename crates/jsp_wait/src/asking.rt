@@ -7,7 +7,7 @@ ghost use Rattle.jsp_wait.specs.Sought.{asked_key, under_key};
 
 use crate::by_number::{key_of_asked, key_of_under};
 use crate::scanned::is_under;
-use jsp_keyed::{Keys, key_of_session, key_of_transaction};
+use jsp_keyed::{Key, Keys, key_of_session, key_of_transaction};
 use jsp_model::Blocked;
 use jsp_sight::is_caller;
 use jsp_table::Test;
@@ -23,6 +23,14 @@ impl Test<Blocked> for OfSession {
 
     fn passes(&self, request: &Blocked) -> bool {
         request.session == self.session
+    }
+}
+
+impl Key for OfSession {
+    ghost key_by = { λ t seed. session_key seed t.session };
+
+    fn key(&self, seed: u64) -> u64 {
+        key_of_session(seed, self.session)
     }
 }
 

@@ -1,5 +1,5 @@
 //! The requests that wait. Contracts see them as a list, in the order in which they came.
-ghost use Rattle.std.specs.Prelude.{◌≡◌, ◌==◌, ◌&&◌, ◌++◌, ◌∷◌, [], not, map, filter, find, length, is_some, option_copied, IfOk, OnOk, OnErr};
+ghost use Rattle.std.specs.Prelude.{◌≡◌, ◌==◌, ◌&&◌, ◌++◌, ◌∷◌, [], not, map, filter, find, length, is_some, option_copied, nat_le, IfOk, OnOk, OnErr};
 ghost use Rattle.std.specs.List.{list_any};
 ghost use Rattle.jsp_lease.specs.Due.{first_item, over_by};
 ghost use Rattle.jsp_model.specs.Lookup.{is_caller as calls};
@@ -8,7 +8,9 @@ ghost use Rattle.jsp_wait.specs.Offered.{AskForIt, takes_one, waits_no_more};
 
 use crate::asking::{At, OfSession, Under, UnderAny, UnderIt};
 use crate::by_number::Requests;
-use crate::keyed::{askers, copies_of, count_waiting_at, first_at_places, is_asked, space_of};
+use crate::keyed::{
+    are_at_least, askers, copies_of, count_waiting_at, first_at_places, is_asked, space_of,
+};
 use crate::offer::Offer;
 use crate::scanned::{
     any_asked, any_takes, asked_at, asked_under, count_asked, count_waiting, drop_at,
@@ -263,6 +265,16 @@ impl Waiters {
         match &self.kept {
             Kept::Scanned(requests) => count_asked(requests, session),
             Kept::Keyed(requests) => requests.count(&OfSession { session }),
+        }
+    }
+
+    /// Whether at least so many of the session's requests wait.
+    pub fn has_at_least(&self, session: u64, count: usize) -> bool
+        ensures { result ≡ nat_le count (length (filter (λ b. b.session == session) self.now)) }
+    {
+        match &self.kept {
+            Kept::Scanned(requests) => count <= count_asked(requests, session),
+            Kept::Keyed(requests) => are_at_least(requests, session, count),
         }
     }
 
