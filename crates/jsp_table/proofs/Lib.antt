@@ -1,5 +1,6 @@
 pub mod Rising
 pub mod Next
+pub mod Above
 pub mod Standing
 pub mod Finding
 pub mod Changing

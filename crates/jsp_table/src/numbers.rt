@@ -4,7 +4,7 @@ ghost use Rattle.jsp_table.specs.Numbers.{contains, AreIncreasing};
 ghost use Rattle.jsp_table.specs.Kept.{numbers_in};
 
 use crate::NoMemory;
-use crate::few::{add_to_few, next_of_few, next_of_few_from, remove_from_few};
+use crate::few::{add_to_few, next_of_few, remove_from_few};
 use crate::many::{add_to_many, many_of, next_of_many, remove_from_many};
 use std::alloc::Global;
 use std::collections::BTreeSet;
@@ -93,16 +93,12 @@ impl Numbers {
         }
     }
 
-    /// The same for who goes through them: it keeps a place, which is 0 at first, and finds the next
-    /// number there, where no more than that was asked.
-    pub(crate) fn next_from(&self, place: &mut usize, number: u64) -> Option<u64>
-        ensures next { result ≡ find (nat_lt number) self.now }
+    /// How they are kept.
+    pub(crate) fn kept(&self) -> &Kept
+        ensures same { numbers_in result.now ≡ self.now }
         ensures increasing { AreIncreasing self.now }
     {
-        match &self.kept {
-            Kept::Few(numbers) => next_of_few_from(numbers, place, number),
-            Kept::Many(numbers) => next_of_many(numbers, number),
-        }
+        &self.kept
     }
 
     /// Adds a number, if it isn't there.

@@ -2,12 +2,17 @@
 ghost use Rattle.std.specs.Prelude.{◌≡◌, ◌==◌, if◌then◌else◌, Option, Some, ℕ, ◌+◌, ◌<◌, ◌≤◌, Bool, List, [], ◌∷◌, ◌++◌, OnOk, OnErr, IsOk, find, map, length, option_copied, option_map, slice_index, vec_len, vec_capacity};
 ghost use Rattle.std.specs.Bool.{OnTrue};
 ghost use Rattle.std.specs.List.{AllByRecursion};
+ghost use Rattle.jsp_table.specs.Numbers.{AreIncreasing};
 ghost use Rattle.jsp_table.specs.Finding.{numbered, without, is_hit, AreNumbered};
 ghost use Rattle.jsp_table.specs.Places.{living, AreKept, AreOver};
 
+use crate::few::next_of_few_from;
+use crate::numbers::Kept;
 use crate::{NoMemory, Numbers};
 use std::alloc::Global;
+use std::collections::BTreeSet;
 use std::marker::{Model, PhantomData};
+use std::ops::Bound;
 
 /// How things are numbered.
 pub trait Numbering<T> {
@@ -356,15 +361,51 @@ fn first_named<'a, T, N: Numbering<T>, P: Test<T>>(
 ) -> Option<&'a T>
     ensures { option_copied result ≡ find (is_hit N.number_of (P.is_passed test.now) numbers.now after) table.now }
 {
+    match numbers.kept() {
+        Kept::Few(few) => first_of_few(table, few, after, test),
+        Kept::Many(many) => first_of_many(table, many, after, test),
+    }
+}
+
+/// The same of a few numbers, of which a place is kept.
+fn first_of_few<'a, T, N: Numbering<T>, P: Test<T>>(
+    table: &'a Table<T, N>,
+    numbers: &[u64],
+    after: u64,
+    test: &P,
+) -> Option<&'a T>
+    requires { AreIncreasing numbers.now }
+    ensures { option_copied result ≡ find (is_hit N.number_of (P.is_passed test.now) numbers.now after) table.now }
+{
     let mut last = after;
     let mut place = 0;
-    'numbers: while let Some(number) = numbers.next_from(&mut place, last) {
+    'numbers: while let Some(number) = next_of_few_from(numbers, &mut place, last) {
         if let Some(thing) = table.get(number) {
             if test.passes(thing) {
                 return Some(thing);
             }
         }
         last = number;
+    }
+    None
+}
+
+/// The same of many, whose tree is gone through from one number to the next.
+fn first_of_many<'a, T, N: Numbering<T>, P: Test<T>>(
+    table: &'a Table<T, N>,
+    numbers: &BTreeSet<u64>,
+    after: u64,
+    test: &P,
+) -> Option<&'a T>
+    requires { AreIncreasing numbers.now.keys }
+    ensures { option_copied result ≡ find (is_hit N.number_of (P.is_passed test.now) numbers.now.keys after) table.now }
+{
+    'numbers: for number in numbers.range((Bound::Excluded(after), Bound::Unbounded)) {
+        if let Some(thing) = table.get(*number) {
+            if test.passes(thing) {
+                return Some(thing);
+            }
+        }
     }
     None
 }
