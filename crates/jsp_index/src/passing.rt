@@ -122,6 +122,9 @@ fn pass_under(starts: &mut Starts, rows: &Rows, seed: u64, key: u64, number: u64
         return;
     }
     let start = start_of(starts, key);
+    if start.is_even() && begins_open(rows, numbers, start.held, &Free {}) {
+        return;
+    }
     let next = Start {
         taken: further(rows, numbers, start.taken, number, &Untaken {}),
         hidden: further(rows, numbers, start.hidden, number, &Public {}),

@@ -29,6 +29,11 @@ pub(crate) struct Start {
 }
 
 impl Start {
+    /// Whether all begin at one number.
+    pub(crate) fn is_even(&self) -> bool {
+        self.taken == self.hidden && self.hidden == self.held
+    }
+
     /// The number up to which no row is seen.
     pub(crate) fn number(&self, unseen: Unseen) -> u64
         ensures { result ≡ number_at unseen self.now }
