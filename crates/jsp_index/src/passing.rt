@@ -122,7 +122,8 @@ fn pass_under(starts: &mut Starts, rows: &Rows, seed: u64, key: u64, number: u64
         return;
     }
     let start = start_of(starts, key);
-    if start.is_even() && begins_open(rows, numbers, start.held, &Free {}) {
+    // A free row is neither held nor hidden nor taken, so none of the three would move.
+    if start.are_equal() && begins_open(rows, numbers, start.held, &Free {}) {
         return;
     }
     let next = Start {

@@ -29,8 +29,8 @@ pub(crate) struct Start {
 }
 
 impl Start {
-    /// Whether all begin at one number.
-    pub(crate) fn is_even(&self) -> bool {
+    /// Whether all three are one number.
+    pub(crate) fn are_equal(&self) -> bool {
         self.taken == self.hidden && self.hidden == self.held
     }
 

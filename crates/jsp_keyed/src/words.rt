@@ -1,5 +1,5 @@
-//! Keys whose texts are mixed in by words of eight bytes: for long texts they take an eighth of the
-//! time of those in `keys`. Two keys may be the same number, as there.
+//! Keys whose texts are mixed in by words of eight bytes, in an eighth of the steps that those in `keys`
+//! take. Two keys may be the same number, as there.
 ghost use Rattle.std.specs.Prelude.{◌≡◌};
 ghost use Rattle.jsp_keyed.specs.Keys.{number_key};
 ghost use Rattle.jsp_keyed.specs.Words.{mix_words as words_mixed, mix_value_words, class_word_key, field_word_key};
