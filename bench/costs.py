@@ -259,6 +259,21 @@ def takes_beside(operation):
     return script_of
 
 
+def held_beside(operation):
+    """Transactions that hold an entry take what there is first for them, and are aborted."""
+    def script_of(count):
+        script = holding(operation)(count)
+        script.write(50_000_000)
+        for value in range(TRANSFERS):
+            txn = script.begin()
+            script.write(60_000_000 + value, txn=txn)
+            script.find("take", None, txn=txn)
+            script.send(f'{{"op":"abort","txn":{txn}}}')
+        return script
+
+    return script_of
+
+
 def opened(count):
     script = standing(count)
     script.send('{"op":"hello","version":2}')
@@ -309,6 +324,8 @@ def rows():
     for operation, done in ("write", "wrote"), ("take", "took"), ("read", "read"):
         name = f"a write and a take, beside entries that a transaction {done}"
         yield name, (0, 1_000, 10_000, 60_000), holding(operation), takes_beside(operation), TRANSFERS
+        name = f"a transaction that writes, takes and is aborted, beside entries that another {done}"
+        yield name, (0, 1_000, 10_000, 60_000), holding(operation), held_beside(operation), TRANSFERS
     yield "a page of sixteen", (1_000, 10_000, 60_000), opened, pages, 480
     yield "a lease's end at one reading", (15_000, 30_000, 60_000), standing, ending, None
     yield "a reading of the clock", STANDING, standing, readings, MANY

@@ -1,23 +1,18 @@
 -- Rows that are held at the head of a list, as rows and starts change.
 use Rattle.std.proofs.Common.{◌≡◌, ℕ, zero, suc, ◌+◌, ◌-◌, ◌<◌, ◌≤◌, Bool, true, false, cond, ◌&&◌, eqb, nat_lt, List, [], ◌∷◌, ◌++◌, length, take, get_or, map, Option, Some, None, inl, inr, refl, ap, sym, ◌∙◌, subst, arith}
-use Rattle.std.specs.Prelude.{filter, is_none, nat_eq, Result, Ok, Err, OnOk, OnErr}
+use Rattle.std.specs.Prelude.{filter, is_none, Result, Ok, Err, OnOk, OnErr}
 use Rattle.std.specs.Option.{option_map_or}
 use Rattle.std.specs.Map.{lookup}
-use Rattle.std.specs.List.{AllByRecursion, list_all}
+use Rattle.std.specs.List.{AllByRecursion}
 use Rattle.std.specs.Bool.{OnTrue}
-use Rattle.std.specs.HashMap.{HashMap, get, hash_map_len}
+use Rattle.std.specs.HashMap.{HashMap, hash_map_len}
 use Rattle.std.proofs.lemmas.Bool.{eq-eqb}
 use Rattle.std.proofs.lemmas.Bool.Decides.{nat_tests}
 use Rattle.std.proofs.lemmas.List.{take_more}
-use Rattle.std.proofs.lemmas.Grind.{common_steps}
-use Rattle.jsp_types.specs.declared.class.Class.{Class}
 use Rattle.jsp_model.specs.declared.state.Row.{Row}
-use Rattle.jsp_model.specs.declared.state.Blocked.{Blocked}
-use Rattle.jsp_model.specs.declared.state.MatchSet.{MatchSet}
-use Rattle.jsp_model.specs.Sight.{is_take, is_free as is_free_of, readable}
-use Rattle.jsp_model.specs.Lookup.{is_caller, contains as has}
-use Rattle.jsp_sight.specs.Rows.{wanted, offered, shows, with_reader}
-use Rattle.jsp_table.specs.Numbers.{contains, names}
+use Rattle.jsp_model.specs.Lookup.{contains as has}
+use Rattle.jsp_sight.specs.Rows.{with_reader}
+use Rattle.jsp_table.specs.Numbers.{contains}
 use Rattle.jsp_table.specs.Finding.{AreNamed}
 use Rattle.jsp_table.proofs.Finding.{each, both, everywhere}
 use Rattle.jsp_table.proofs.Rising.{or_cases}
@@ -25,13 +20,12 @@ use Rattle.jsp_keyed.specs.Finding.{IsUpTo, IsOneOf}
 use Rattle.jsp_keyed.proofs.Named.{All-append}
 use Rattle.jsp_index.specs.Finding.{number, row_numbered, is_next, IsLeast}
 use Rattle.jsp_index.specs.Keys.{row_keys}
-use Rattle.jsp_index.specs.Holding.{IsHeld, AreHeld}
 use Rattle.jsp_index.specs.Changing.{HasSameKeys}
 use Rattle.jsp_index.specs.declared.starts.Unseen.{Unseen}
 use Rattle.jsp_index.specs.declared.starts.Unseen.TheVariants.{Nothing, Taken, Hidden, Held}
 use Rattle.jsp_index.specs.declared.starts.Start.{Start}
 use Rattle.jsp_index.specs.Starts.{number_at, start_at}
-use Rattle.jsp_index.specs.Passed.{is_untaken, is_public, is_free, is_open, may_have, AreOpen, AreAbove, IsAbove, ArePassed, AreLower, IsOverAll, AreListed}
+use Rattle.jsp_index.specs.Passed.{is_untaken, is_public, is_free, is_open, AreAbove, IsAbove, ArePassed, AreLower, IsOverAll, AreListed}
 use Rattle.jsp_index.proofs.Covering.{and_both, eqb_eq, same_keys}
 use Rattle.jsp_index.proofs.Narrowing.{and_true}
 use Rattle.jsp_index.proofs.Holders.{all_filtered}
@@ -269,68 +263,3 @@ module _ (passed kind had : Row → Bool) (numbers : List ℕ) (start before aft
     one : (o : Option Row) → IsOneOf number (is_next passed after) rows o → IsOneOf number (is_next passed before) rows o
     one None h = tt
     one (Some r) h = (open_one r h.0, h.1)
-
--- ---- what a request may have
-
-readable_parts : (x : Option ℕ) (r : Row) → readable x r ≡ true → (is_none r.taker ≡ true) × (is_free_of x r.writer ≡ true)
-readable_parts x r h = and_both (is_none r.taker) (is_free_of x r.writer) h
-
-readable_of : (takes : Bool) (x : Option ℕ) (r : Row) → may_have takes x r ≡ true → readable x r ≡ true
-readable_of true x r h = (and_both (readable x r) (list_all (is_caller x) r.readers) h).0
-readable_of false x r h = h
-
-nobody : (w : Option ℕ) → is_free_of None w ≡ true → is_none w ≡ true
-nobody None h = refl
-nobody (Some y) h = absurd (cc)
-
-none_reads : (readers : List ℕ) → list_all (is_caller None) readers ≡ true → eqb (length readers) 0 ≡ true
-none_reads [] h = refl
-none_reads (y ∷ readers) h = absurd (cc)
-
--- what may be had isn't taken
-pub had_untaken : (takes : Bool) (x : Option ℕ) (rows : List Row) → AreOpen Taken (may_have takes x) rows
-had_untaken takes x rows = everywhere (λ r. may_have takes x r ≡ true → is_untaken r ≡ true) rows (λ r h. (readable_parts x r (readable_of takes x r h)).0)
-
--- who is under no transaction has no part in what one holds
-pub had_by_none : (takes : Bool) (rows : List Row) → AreOpen (cond takes Held Hidden) (may_have takes None) rows
-had_by_none true rows = everywhere (λ r. may_have true None r ≡ true → is_free r ≡ true) rows (λ r h. let two = and_both (readable None r) (list_all (is_caller None) r.readers) h in
-    let parts = readable_parts None r two.0 in
-    and_true (eqb (length r.readers) 0) (is_public r) (none_reads r.readers two.1) (and_true (is_none r.writer) (is_untaken r) (nobody r.writer parts.1) parts.0))
-had_by_none false rows = everywhere (λ r. may_have false None r ≡ true → is_public r ≡ true) rows (λ r h. let parts = readable_parts None r h in and_true (is_none r.writer) (is_untaken r) (nobody r.writer parts.1) parts.0)
-
-module _ {S : Type 0} (holders : HashMap ℕ (List ℕ) S) (x : ℕ) (none : get nat_eq holders x ≡ None) where
-  holds_none : (n : ℕ) → names holders x n ≡ true → ⊥
-  holds_none n h = absurd (cc (h, ap (λ o. option_map_or (λ ns. contains ns n) o false) none))
-
-  same_holder : (y : ℕ) → eqb x y ≡ true → eqb y x ≡ true
-  same_holder y h = eq-eqb y x (sym (eqb_eq x y h))
-
-  not_writer : (w : Option ℕ) (n : ℕ) → ((y : ℕ) → is_caller w y ≡ true → names holders y n ≡ true) → is_free_of (Some x) w ≡ true → is_none w ≡ true
-  not_writer None n held h = refl
-  not_writer (Some y) n held h = absurd (holds_none n (held x (same_holder y h)))
-
-  no_reader : (readers : List ℕ) (n : ℕ) → AllByRecursion (λ y. names holders y n ≡ true) readers → list_all (is_caller (Some x)) readers ≡ true → eqb (length readers) 0 ≡ true
-  no_reader [] n held h = refl
-  no_reader (y ∷ readers) n held h = absurd (holds_none n (subst (λ z. names holders z n ≡ true) (sym (eqb_eq x y (and_both (eqb x y) (list_all (is_caller (Some x)) readers) h).0)) held.0))
-
-  -- a transaction that holds nothing has no part in what others hold
-  pub had_by_stranger : (takes : Bool) (rows : List Row) → AreHeld holders rows → AreOpen (cond takes Held Hidden) (may_have takes (Some x)) rows
-  had_by_stranger true rows held = each (IsHeld holders) (λ r. may_have true (Some x) r ≡ true → is_free r ≡ true) rows held (λ r i h. let two = and_both (readable (Some x) r) (list_all (is_caller (Some x)) r.readers) h in
-      let parts = readable_parts (Some x) r two.0 in
-      and_true (eqb (length r.readers) 0) (is_public r) (no_reader r.readers r.number i.by_reader two.1) (and_true (is_none r.writer) (is_untaken r) (not_writer r.writer r.number i.by_writer parts.1) parts.0))
-  had_by_stranger false rows held = each (IsHeld holders) (λ r. may_have false (Some x) r ≡ true → is_public r ≡ true) rows held (λ r i h. let parts = readable_parts (Some x) r h in and_true (is_none r.writer) (is_untaken r) (not_writer r.writer r.number i.by_writer parts.1) parts.0)
-
--- ---- what is offered or shown may be had
-
-pub offered_open : (u : Unseen) (classes : List Class) (b : Blocked) (rows : List Row) → AreOpen u (may_have (is_take b.form) b.transaction) rows → AreOpen u (offered classes b) rows
-offered_open u classes b rows h = each (λ r. may_have (is_take b.form) b.transaction r ≡ true → is_open u r ≡ true) (λ r. offered classes b r ≡ true → is_open u r ≡ true) rows h (λ r g o. g (and_both (wanted classes b r) (may_have (is_take b.form) b.transaction r) o).1)
-
-shown_had : (classes : List Class) (m : MatchSet) (r : Row) → shows classes m r ≡ true → readable m.transaction r ≡ true
-shown_had classes m r h = grind (arith, common_steps)
-
-pub shown_open : (u : Unseen) (classes : List Class) (m : MatchSet) (rows : List Row) → AreOpen u (may_have false m.transaction) rows → AreOpen u (shows classes m) rows
-shown_open u classes m rows h = each (λ r. may_have false m.transaction r ≡ true → is_open u r ≡ true) (λ r. shows classes m r ≡ true → is_open u r ≡ true) rows h (λ r g o. g (shown_had classes m r o))
-
--- whatever passes is had where nothing is unseen
-pub all_open : (passed : Row → Bool) (rows : List Row) → AreOpen Nothing passed rows
-all_open passed rows = everywhere (λ r. passed r ≡ true → true ≡ true) rows (λ r h. refl)

@@ -8,3 +8,4 @@ pub mod Holders
 pub mod Spaces
 pub mod Beside
 pub mod Heads
+pub mod Having

@@ -1,5 +1,5 @@
 -- Rows that no search passes one by one, since a transaction holds them.
-use Rattle.std.specs.Prelude.{◌≡◌, ℕ, ◌<◌, ◌≤◌, ◌&&◌, ◌==◌, Bool, true, List, length, Option, is_none, if◌then◌else◌}
+use Rattle.std.specs.Prelude.{◌≡◌, ℕ, ◌<◌, ◌≤◌, ◌&&◌, ◌||◌, ◌==◌, Bool, true, List, length, Option, is_none, if◌then◌else◌}
 use Rattle.std.specs.List.{AllByRecursion}
 use Rattle.std.specs.HashMap.{HashMap}
 use Rattle.jsp_model.specs.declared.state.Row.{Row}
@@ -39,6 +39,10 @@ may_have takes x row = if takes then takeable x row else readable x row
 -- what passes is had
 abbrev pub AreOpen : Unseen → (Row → Bool) → List Row → Type 0
 AreOpen unseen passed rows = AllByRecursion (λ row. passed row ≡ true → is_open unseen row ≡ true) rows
+
+-- what passes is open, or one of these
+abbrev pub AreOpenOr : Unseen → List ℕ → (Row → Bool) → List Row → Type 0
+AreOpenOr unseen own passed rows = AllByRecursion (λ row. passed row ≡ true → (is_open unseen row || contains own row.number) ≡ true) rows
 
 -- the open ones of a kind stand above a number
 abbrev pub AreAbove : (Row → Bool) → (Row → Bool) → ℕ → List Row → Type 0

@@ -3,6 +3,7 @@ ghost use Rattle.std.specs.Prelude.{◌≡◌, ◌==◌, ◌&&◌, ◌||◌, not
 ghost use Rattle.jsp_model.specs.Lookup.{contains as has, is_caller as calls};
 ghost use Rattle.jsp_sight.specs.Rows.{offered, held, shows};
 
+use crate::starts::Unseen;
 use jsp_model::{Blocked, MatchSet, Row};
 use jsp_sight::{contains, is_available, is_caller, is_in_conflict, may_show};
 use jsp_table::Test;
@@ -92,6 +93,23 @@ impl Test<Row> for Free {
 
     fn passes(&self, row: &Row) -> bool {
         row.readers.as_slice().is_empty() && row.writer.is_none() && row.taker.is_none()
+    }
+}
+
+/// Whether a search may have the row, by whom it is held, and it passes a test.
+#[derive(Drop)]
+pub(crate) struct Open<'a, P: Test<Row>> {
+    pub(crate) unseen: Unseen,
+    pub(crate) test: &'a P,
+}
+
+impl<'a, P: Test<Row>> Test<Row> for Open<'a, P> {
+    ghost use Rattle.jsp_index.specs.Passed.{is_open};
+
+    ghost is_passed = { λ s r. is_open s.unseen r && P.is_passed s.test.now r };
+
+    fn passes(&self, row: &Row) -> bool {
+        self.unseen.leaves(row) && self.test.passes(row)
     }
 }
 

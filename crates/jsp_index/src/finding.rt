@@ -7,10 +7,8 @@ ghost use Rattle.jsp_model.specs.declared.state.Row.{Row as OfRow};
 ghost use Rattle.jsp_model.specs.Lookup.{contains as has, is_caller as calls};
 ghost use Rattle.jsp_model.specs.Changes.{published};
 ghost use Rattle.jsp_table.specs.Numbers.{contains};
-ghost use Rattle.jsp_index.specs.Passed.{may_have, AreOpen};
-ghost use Rattle.jsp_index.specs.declared.starts.Unseen.TheVariants.{Held, Hidden};
-ghost use Rattle.std.specs.Bool.{OnTrue};
-ghost use Rattle.jsp_types.specs.declared.class.Class.{Class as OfClass};
+ghost use Rattle.jsp_index.specs.Passed.{may_have};
+ghost use Rattle.jsp_index.specs.Finding.{is_asked};
 ghost use Rattle.jsp_sight.specs.Rows.{offered, offered_among, held, shows, row_end, entries_among};
 
 use crate::asking::{ChangedBy, InConflict, Offered, OneOf, PublishedBy, Shown};
@@ -81,15 +79,8 @@ impl HintedRows {
     pub fn first_available(&self, classes: &Classes, blocked: &Blocked) -> Option<u64>
         ensures { result ≡ slice_get (offered_among classes.now blocked.now self.now) 0 }
     {
-        let templates = blocked.templates.as_slice();
         let test = Offered { classes, blocked };
-        let behind = Behind {
-            number: 0,
-            unseen: self.unseen_by(blocked),
-        };
-        let row = self
-            .rows
-            .first_behind(classes, blocked.space, templates, behind, &test)?;
+        let row = self.first_sought(&sought_by(classes, blocked), 0, &test)?;
         Some(row.number)
     }
 
@@ -124,15 +115,10 @@ impl HintedRows {
     ) -> Result<Items<u64>, NoMemory>
         ensures { IfOk result (λ ns. ns ≡ take blocked.now.most (offered_among classes.now blocked.now self.now)) }
     {
-        let sought = Sought {
-            classes,
-            space: blocked.space,
-            templates: blocked.templates.as_slice(),
-            unseen: self.unseen_by(blocked),
-        };
+        let sought = sought_by(classes, blocked);
         let test = Offered { classes, blocked };
         let most = blocked.most as usize;
-        let numbers = numbers_found(alloc, &self.rows, &sought, 0, &test, most)?;
+        let numbers = numbers_found(alloc, self, &sought, 0, &test, most)?;
         Ok(numbers)
     }
 
@@ -140,14 +126,9 @@ impl HintedRows {
     pub fn count_available(&self, classes: &Classes, blocked: &Blocked, most: usize) -> usize
         ensures { result ≡ length (take most (offered_among classes.now blocked.now self.now)) }
     {
-        let sought = Sought {
-            classes,
-            space: blocked.space,
-            templates: blocked.templates.as_slice(),
-            unseen: self.unseen_by(blocked),
-        };
+        let sought = sought_by(classes, blocked);
         let test = Offered { classes, blocked };
-        walk(&self.rows, &sought, 0, &test, most).count
+        walk(self, &sought, 0, &test, most).count
     }
 
     /// Whether the row of this number may be given to the request.
@@ -170,14 +151,9 @@ impl HintedRows {
     ) -> Result<Items<Entry>, NoMemory>
         ensures { IfOk result (λ es. es ≡ map (λ row. row.entry) (take most (filter (shows classes.now set.now) self.now))) }
     {
-        let sought = Sought {
-            classes,
-            space: set.space,
-            templates: std::slice::from_ref(&set.template),
-            unseen: self.unseen_in(set),
-        };
+        let sought = sought_in(classes, set);
         let test = Shown { classes, set };
-        let entries = entries_found(alloc, &self.rows, &sought, set.cursor, &test, most)?;
+        let entries = entries_found(alloc, self, &sought, set.cursor, &test, most)?;
         Ok(entries)
     }
 
@@ -185,28 +161,18 @@ impl HintedRows {
     pub fn count_shown(&self, classes: &Classes, set: &MatchSet, most: usize) -> usize
         ensures { result ≡ length (take most (filter (shows classes.now set.now) self.now)) }
     {
-        let sought = Sought {
-            classes,
-            space: set.space,
-            templates: std::slice::from_ref(&set.template),
-            unseen: self.unseen_in(set),
-        };
+        let sought = sought_in(classes, set);
         let test = Shown { classes, set };
-        walk(&self.rows, &sought, set.cursor, &test, most).count
+        walk(self, &sought, set.cursor, &test, most).count
     }
 
     /// The number of the last of the first rows that a match set may still show.
     pub fn last_shown(&self, classes: &Classes, set: &MatchSet, most: usize) -> Option<u64>
         ensures { result ≡ last_or None (map (λ row. row.number) (take most (filter (shows classes.now set.now) self.now))) }
     {
-        let sought = Sought {
-            classes,
-            space: set.space,
-            templates: std::slice::from_ref(&set.template),
-            unseen: self.unseen_in(set),
-        };
+        let sought = sought_in(classes, set);
         let test = Shown { classes, set };
-        walk(&self.rows, &sought, set.cursor, &test, most).last
+        walk(self, &sought, set.cursor, &test, most).last
     }
 
     /// Whether the transaction wrote or took a row there.
@@ -270,45 +236,31 @@ impl HintedRows {
     }
 }
 
-impl HintedRows {
-    /// The rows that the request can't have.
-    fn unseen_by(&self, blocked: &Blocked) -> Unseen
-        ensures { (classes : List OfClass) → AreOpen result (offered classes blocked.now) self.now }
-    {
-        self.unseen(blocked.transaction, is_take(blocked.form))
+/// What the request asks for.
+fn sought_by<'a>(classes: &'a Classes, blocked: &'a Blocked) -> Sought<'a>
+    ensures asked { (r : OfRow) → offered classes.now blocked.now r ≡ true → is_asked result.classes.now result.space result.templates.now r ≡ true }
+    ensures had { (r : OfRow) → offered classes.now blocked.now r ≡ true → may_have result.takes result.transaction r ≡ true }
+{
+    Sought {
+        classes,
+        space: blocked.space,
+        templates: blocked.templates.as_slice(),
+        transaction: blocked.transaction,
+        takes: is_take(blocked.form),
     }
+}
 
-    /// The rows that a match set can't show.
-    fn unseen_in(&self, set: &MatchSet) -> Unseen
-        ensures { (classes : List OfClass) → AreOpen result (shows classes set.now) self.now }
-    {
-        self.unseen(set.transaction, false)
-    }
-
-    /// The rows that a transaction, or none, can't take or read. What it holds itself it may have.
-    fn unseen(&self, transaction: Option<u64>, takes: bool) -> Unseen
-        ensures { AreOpen result (may_have takes transaction) self.now }
-    {
-        if !self.holds_none(transaction) {
-            return Unseen::Taken;
-        }
-        if takes {
-            return Unseen::Held;
-        }
-        Unseen::Hidden
-    }
-
-    /// Whether a transaction holds no row; or there is none.
-    fn holds_none(&self, transaction: Option<u64>) -> bool
-        ensures { OnTrue result ((takes : Bool) → AreOpen (if takes then Held else Hidden) (may_have takes transaction) self.now) }
-    {
-        match transaction {
-            None => true,
-            Some(x) => match self.holders.get(&x) {
-                None => true,
-                Some(_) => false,
-            },
-        }
+/// What a match set shows.
+fn sought_in<'a>(classes: &'a Classes, set: &'a MatchSet) -> Sought<'a>
+    ensures asked { (r : OfRow) → shows classes.now set.now r ≡ true → is_asked result.classes.now result.space result.templates.now r ≡ true }
+    ensures had { (r : OfRow) → shows classes.now set.now r ≡ true → may_have result.takes result.transaction r ≡ true }
+{
+    Sought {
+        classes,
+        space: set.space,
+        templates: std::slice::from_ref(&set.template),
+        transaction: set.transaction,
+        takes: false,
     }
 }
 

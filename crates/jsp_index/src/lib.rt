@@ -20,6 +20,7 @@ mod hinted;
 mod holding;
 mod keyed;
 mod listing;
+mod own;
 mod passing;
 mod revising;
 mod searching;

@@ -5,9 +5,9 @@ ghost use Rattle.jsp_model.specs.declared.state.Row.{Row as OfRow};
 ghost use Rattle.jsp_types.specs.declared.entry.Template.TheVariants.{Like};
 ghost use Rattle.jsp_index.specs.Finding.{is_next, is_asked, is_like, IsLeast};
 ghost use Rattle.jsp_index.specs.Numbered.{AreNumbered};
-ghost use Rattle.jsp_index.specs.Passed.{AreOpen, AreListed};
+ghost use Rattle.jsp_index.specs.Passed.{AreOpen, AreOpenOr, AreListed};
 
-use crate::asking::InSpace;
+use crate::asking::{InSpace, Open};
 use crate::by_number::ByNumber;
 use crate::choosing::rarest_field;
 use crate::keyed::{KeyedRows, Listed};
@@ -15,7 +15,7 @@ use crate::seeking::{OfClass, OfField};
 use crate::starts::Unseen;
 use jsp_keyed::lesser;
 use jsp_model::Row;
-use jsp_table::Test;
+use jsp_table::{Numbers, Test};
 use jsp_types::{Classes, Entry, Template};
 
 /// Behind which rows a search begins: those up to a number, and those at the head of a list that it
@@ -138,5 +138,27 @@ impl KeyedRows {
             );
         }
         first
+    }
+
+    /// The first row above a number that passes the test, which only rows of the space pass that are like
+    /// one of the templates: one of these, or one that is open.
+    pub(crate) fn first_open_or<P: Test<Row>>(
+        &self,
+        classes: &Classes,
+        space: u64,
+        templates: &[Template],
+        own: &Numbers,
+        behind: Behind,
+        test: &P,
+    ) -> Option<&Row>
+        requires asked { (r : OfRow) → P.is_passed test.now r ≡ true → is_asked classes.now space templates.now r ≡ true }
+        requires had { AreOpenOr behind.unseen own.now (P.is_passed test.now) self.now }
+        ensures found { option_copied result ≡ find (is_next (P.is_passed test.now) behind.number) self.now }
+        ensures numbered { AreNumbered self.now }
+    {
+        let unseen = behind.unseen;
+        let open = self.first_behind(classes, space, templates, behind, &Open { unseen, test });
+        let other = self.rows.first_named(own, behind.number, test);
+        lesser::<Row, ByNumber>(open, other)
     }
 }

@@ -3,8 +3,12 @@ ghost use Rattle.std.specs.Prelude.{◌≡◌, ◌==◌, ◌<◌, ◌≤◌, ℕ
 ghost use Rattle.std.specs.Bool.{OnTrue};
 ghost use Rattle.jsp_index.specs.declared.starts.Unseen.{Unseen as OfUnseen};
 ghost use Rattle.jsp_index.specs.Starts.{number_at, start_at};
+ghost use Rattle.jsp_index.specs.Passed.{is_open};
 
 use crate::NoMemory;
+use crate::asking::{Free, Public, Untaken};
+use jsp_model::Row;
+use jsp_table::Test;
 use std::collections::HashMap;
 
 /// Rows that a search can't have.
@@ -18,6 +22,20 @@ pub(crate) enum Unseen {
     Hidden,
     /// Those that a transaction wrote, took or read.
     Held,
+}
+
+impl Unseen {
+    /// Whether the row isn't one of them.
+    pub(crate) fn leaves(&self, row: &Row) -> bool
+        ensures { result ≡ is_open self.now row.now }
+    {
+        match self {
+            Unseen::Nothing => true,
+            Unseen::Taken => Untaken {}.passes(row),
+            Unseen::Hidden => Public {}.passes(row),
+            Unseen::Held => Free {}.passes(row),
+        }
+    }
 }
 
 /// The number up to which all rows that have a key are taken, hidden and held.

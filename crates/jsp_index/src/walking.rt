@@ -4,51 +4,44 @@ ghost use Rattle.std.specs.List.{last_or};
 ghost use Rattle.jsp_model.specs.declared.state.Row.{Row as OfRow};
 ghost use Rattle.jsp_index.specs.Finding.{is_next, is_asked};
 ghost use Rattle.jsp_index.specs.Numbered.{AreNumbered};
-ghost use Rattle.jsp_index.specs.Passed.{AreOpen};
+ghost use Rattle.jsp_index.specs.Passed.{may_have};
 
-use crate::NoMemory;
-use crate::keyed::KeyedRows;
-use crate::searching::Behind;
-use crate::starts::Unseen;
+use crate::{HintedRows, NoMemory};
 use jsp_model::Row;
 use jsp_table::Test;
 use jsp_types::{Classes, Entry, Items, Template};
 use std::alloc::Global;
 
-/// Where a walk looks: in a space, for rows that are like one of the templates and aren't of those that it
-/// can't have.
+/// What a search looks for: rows in a space that are like one of the templates, and that a transaction, or
+/// who is under none, may read, or take.
 #[derive(Drop)]
 pub(crate) struct Sought<'a> {
     pub(crate) classes: &'a Classes,
     pub(crate) space: u64,
     pub(crate) templates: &'a [Template],
-    pub(crate) unseen: Unseen,
+    pub(crate) transaction: Option<u64>,
+    pub(crate) takes: bool,
 }
 
 /// The numbers of the first rows above one that pass, so many.
 pub(crate) fn numbers_found<P: Test<Row>>(
     alloc: Global,
-    rows: &KeyedRows,
+    rows: &HintedRows,
     sought: &Sought,
     from: u64,
     test: &P,
     most: usize,
 ) -> Result<Items<u64>, NoMemory>
     requires asked { (r : OfRow) → P.is_passed test.now r ≡ true → is_asked sought.now.classes.now sought.now.space sought.now.templates.now r ≡ true }
-    requires had { AreOpen sought.now.unseen (P.is_passed test.now) rows.now }
+    requires had { (r : OfRow) → P.is_passed test.now r ≡ true → may_have sought.now.takes sought.now.transaction r ≡ true }
     ensures found { IfOk result (λ ns. ns ≡ map (λ r. r.number) (take most (filter (is_next (P.is_passed test.now) from) rows.now))) }
     ensures numbered { AreNumbered rows.now }
 {
-    let _ = rows.places();
+    let _ = rows.rows.places();
     let mut numbers = Items::new(alloc);
     let mut after = from;
     'rows: for _count in 0..most {
-        let (classes, space, templates) = (sought.classes, sought.space, sought.templates);
-        let behind = Behind {
-            number: after,
-            unseen: sought.unseen,
-        };
-        let Some(row) = rows.first_behind(classes, space, templates, behind, test) else {
+        let Some(row) = rows.first_sought(sought, after, test) else {
             return Ok(numbers);
         };
         numbers.push(row.number)?;
@@ -60,27 +53,22 @@ pub(crate) fn numbers_found<P: Test<Row>>(
 /// The entries of the first rows above a number that pass, so many.
 pub(crate) fn entries_found<P: Test<Row>>(
     alloc: Global,
-    rows: &KeyedRows,
+    rows: &HintedRows,
     sought: &Sought,
     from: u64,
     test: &P,
     most: usize,
 ) -> Result<Items<Entry>, NoMemory>
     requires asked { (r : OfRow) → P.is_passed test.now r ≡ true → is_asked sought.now.classes.now sought.now.space sought.now.templates.now r ≡ true }
-    requires had { AreOpen sought.now.unseen (P.is_passed test.now) rows.now }
+    requires had { (r : OfRow) → P.is_passed test.now r ≡ true → may_have sought.now.takes sought.now.transaction r ≡ true }
     ensures found { IfOk result (λ es. es ≡ map (λ r. r.entry) (take most (filter (is_next (P.is_passed test.now) from) rows.now))) }
     ensures numbered { AreNumbered rows.now }
 {
-    let _ = rows.places();
+    let _ = rows.rows.places();
     let mut entries = Items::new(alloc);
     let mut after = from;
     'rows: for _count in 0..most {
-        let (classes, space, templates) = (sought.classes, sought.space, sought.templates);
-        let behind = Behind {
-            number: after,
-            unseen: sought.unseen,
-        };
-        let Some(row) = rows.first_behind(classes, space, templates, behind, test) else {
+        let Some(row) = rows.first_sought(sought, after, test) else {
             return Ok(entries);
         };
         add_entry(&mut entries, row)?;
@@ -106,28 +94,23 @@ pub(crate) struct Walked {
 
 /// Walks over the first rows above a number that pass, so many. Takes no memory.
 pub(crate) fn walk<P: Test<Row>>(
-    rows: &KeyedRows,
+    rows: &HintedRows,
     sought: &Sought,
     from: u64,
     test: &P,
     most: usize,
 ) -> Walked
     requires asked { (r : OfRow) → P.is_passed test.now r ≡ true → is_asked sought.now.classes.now sought.now.space sought.now.templates.now r ≡ true }
-    requires had { AreOpen sought.now.unseen (P.is_passed test.now) rows.now }
+    requires had { (r : OfRow) → P.is_passed test.now r ≡ true → may_have sought.now.takes sought.now.transaction r ≡ true }
     ensures count { result.count ≡ length (take most (filter (is_next (P.is_passed test.now) from) rows.now)) }
     ensures last { result.last ≡ last_or None (map (λ r. r.number) (take most (filter (is_next (P.is_passed test.now) from) rows.now))) }
     ensures numbered { AreNumbered rows.now }
 {
-    let _ = rows.places();
+    let _ = rows.rows.places();
     let mut last = None;
     let mut after = from;
     'rows: for count in 0..most {
-        let (classes, space, templates) = (sought.classes, sought.space, sought.templates);
-        let behind = Behind {
-            number: after,
-            unseen: sought.unseen,
-        };
-        let Some(row) = rows.first_behind(classes, space, templates, behind, test) else {
+        let Some(row) = rows.first_sought(sought, after, test) else {
             return Walked { count, last };
         };
         last = Some(row.number);

@@ -21,7 +21,7 @@ rows-preserved g c =
     let after = c.rows.after in
     let r = c.in-Some.row.now in
     let there : find (is_next passed after) rows ≡ Some r = sym c.in-Some.ensures.found in
-    let up = c.places.ensures.numbered.rising in
+    let up = c.first_sought.ensures.numbered.rising in
     record {
       rest = (walk_more passed rows from after c.rows._count r up there c.rows.invariant.rest).1;
       found = mapped_more passed rows from (λ (r : Row). r.number) after c.rows._count r up there c.rows.invariant.rest c.rows.numbers c.push.new.self c.rows.invariant.found (first_of (search rules, grind (arith, common_steps)));

@@ -28,7 +28,7 @@ rows-preserved g c =
     let after = c.rows.after in
     let r = c.in-Some.row.now in
     let there : find (is_next passed after) rows ≡ Some r = sym c.in-Some.ensures.found in
-    let up = c.places.ensures.numbered.rising in
+    let up = c.first_sought.ensures.numbered.rising in
     record {
       rest = (walk_more passed rows from after c.rows.count r up there c.rows.invariant.rest).1;
       counted = ap (λ n. n + 1) c.rows.invariant.counted ∙ length_more passed rows from after c.rows.count r up there c.rows.invariant.rest;

@@ -1,9 +1,8 @@
-use Rattle.std.proofs.Common.{◌≡◌, List, length, take, ap, ◌∙◌, sym, subst}
+use Rattle.std.proofs.Common.{List, length, take, ap, ◌∙◌}
 use Rattle.std.specs.Prelude.{filter}
 use Rattle.jsp_model.specs.declared.state.Row.{Row}
 use Rattle.jsp_sight.specs.Rows.{offered}
-use Rattle.jsp_index.specs.Passed.{AreOpen}
-use Rattle.jsp_index.specs.Finding.{number, is_next}
+use Rattle.jsp_index.specs.Finding.{number}
 use Rattle.jsp_index.proofs.Walks.{length_mapped}
 use Rattle.jsp_keyed.proofs.Walking.{from_start}
 use Rattle.jsp_index.proofs.hinted.HintedRows.count_available.Goals as goal
@@ -12,10 +11,5 @@ pub returns : goal.returns
 returns c =
     let rows = c.args.self.now in
     let p = offered c.args.classes.now c.args.blocked.now in
-    let inside : List Row = c.self.inside.rows in
-    let up = c.walk.ensures.numbered.positive in
-    let all : filter (is_next p 0) inside ≡ filter p rows = from_start number p inside up ∙ ap (filter p) c.self.view_is in
+    let all = from_start number p rows c.walk.ensures.numbered.positive in
     c.walk.ensures.count ∙ (ap (λ (w : List Row). length (take c.args.most w)) all ∙ length_mapped (λ (r : Row). r.number) c.args.most (filter p rows))
-
-pub walk-requires-clause-had : goal.walk-requires-clause-had
-walk-requires-clause-had c = subst (λ (w : List Row). AreOpen c.unseen_by.result (offered c.args.classes.now c.args.blocked.now) w) (sym c.self.view_is) (c.unseen_by.ensures c.args.classes.now)

@@ -3,7 +3,7 @@ use Rattle.std.specs.Prelude.{find, is_some, option_copied}
 use Rattle.jsp_sight.specs.Rows.{held}
 use Rattle.jsp_index.specs.Finding.{number, is_next}
 use Rattle.jsp_index.specs.Numbered.{AreNumbered}
-use Rattle.jsp_index.proofs.Heads.{all_open}
+use Rattle.jsp_index.proofs.Having.{all_open}
 use Rattle.jsp_index.proofs.Single.{any_found}
 use Rattle.jsp_keyed.proofs.Walking.{start_find}
 use Rattle.jsp_index.proofs.hinted.HintedRows.has_conflict.Goals as goal

@@ -5,7 +5,7 @@ use Rattle.std.proofs.lemmas.Grind.{common_steps}
 use Rattle.jsp_model.specs.declared.state.Row.{Row}
 use Rattle.jsp_index.specs.declared.starts.Unseen.TheVariants.{Held, Hidden}
 use Rattle.jsp_index.specs.Passed.{may_have, AreOpen}
-use Rattle.jsp_index.proofs.Heads.{had_by_none, had_by_stranger}
+use Rattle.jsp_index.proofs.Having.{had_by_none, had_by_stranger}
 use Rattle.jsp_index.proofs.hinted.HintedRows.holds_none.Goals as goal
 
 pub returns-in-None : goal.returns-in-None

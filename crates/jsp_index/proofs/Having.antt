@@ -1,0 +1,153 @@
+-- What who searches may have, who may hold rows itself.
+use Rattle.std.proofs.Common.{◌≡◌, ℕ, Bool, true, false, cond, ◌&&◌, ◌||◌, eqb, nat_lt, List, [], ◌∷◌, length, Option, Some, None, refl, ap, sym, ◌∙◌, subst, arith}
+use Rattle.std.specs.Prelude.{find, is_none, nat_eq}
+use Rattle.std.specs.Option.{option_map_or}
+use Rattle.std.specs.List.{AllByRecursion, list_all}
+use Rattle.std.specs.HashMap.{HashMap, get}
+use Rattle.std.proofs.lemmas.Bool.{eq-eqb}
+use Rattle.std.proofs.lemmas.Grind.{common_steps}
+use Rattle.jsp_types.specs.declared.class.Class.{Class}
+use Rattle.jsp_model.specs.declared.state.Row.{Row}
+use Rattle.jsp_model.specs.declared.state.Blocked.{Blocked}
+use Rattle.jsp_model.specs.declared.state.MatchSet.{MatchSet}
+use Rattle.jsp_model.specs.Sight.{is_take, is_free as is_free_of, readable}
+use Rattle.jsp_model.specs.Lookup.{is_caller}
+use Rattle.jsp_sight.specs.Rows.{wanted, offered, shows}
+use Rattle.jsp_table.specs.Numbers.{contains, names}
+use Rattle.jsp_table.proofs.Finding.{each, everywhere}
+use Rattle.jsp_table.proofs.Rising.{or_cases}
+use Rattle.jsp_keyed.proofs.Least.{found_least, least_of_both, least_among, least_first}
+use Rattle.jsp_index.specs.Finding.{number, is_next, is_asked, IsLeast, lesser}
+use Rattle.jsp_index.specs.Numbered.{AreNumbered}
+use Rattle.jsp_index.specs.Holding.{IsHeld, AreHeld}
+use Rattle.jsp_index.specs.declared.starts.Unseen.{Unseen}
+use Rattle.jsp_index.specs.declared.starts.Unseen.TheVariants.{Nothing, Taken, Hidden, Held}
+use Rattle.jsp_index.specs.Passed.{is_untaken, is_public, is_free, is_open, may_have, AreOpen, AreOpenOr}
+use Rattle.jsp_index.proofs.Covering.{and_both, eqb_eq}
+use Rattle.jsp_index.proofs.Narrowing.{and_true}
+
+readable_parts : (x : Option ℕ) (r : Row) → readable x r ≡ true → (is_none r.taker ≡ true) × (is_free_of x r.writer ≡ true)
+readable_parts x r h = and_both (is_none r.taker) (is_free_of x r.writer) h
+
+readable_of : (takes : Bool) (x : Option ℕ) (r : Row) → may_have takes x r ≡ true → readable x r ≡ true
+readable_of true x r h = (and_both (readable x r) (list_all (is_caller x) r.readers) h).0
+readable_of false x r h = h
+
+nobody : (w : Option ℕ) → is_free_of None w ≡ true → is_none w ≡ true
+nobody None h = refl
+nobody (Some y) h = absurd (cc)
+
+none_reads : (readers : List ℕ) → list_all (is_caller None) readers ≡ true → eqb (length readers) 0 ≡ true
+none_reads [] h = refl
+none_reads (y ∷ readers) h = absurd (cc)
+
+-- what may be had isn't taken
+pub had_untaken : (takes : Bool) (x : Option ℕ) (rows : List Row) → AreOpen Taken (may_have takes x) rows
+had_untaken takes x rows = everywhere (λ r. may_have takes x r ≡ true → is_untaken r ≡ true) rows (λ r h. (readable_parts x r (readable_of takes x r h)).0)
+
+-- who is under no transaction has no part in what one holds
+pub had_by_none : (takes : Bool) (rows : List Row) → AreOpen (cond takes Held Hidden) (may_have takes None) rows
+had_by_none true rows = everywhere (λ r. may_have true None r ≡ true → is_free r ≡ true) rows (λ r h. let two = and_both (readable None r) (list_all (is_caller None) r.readers) h in
+    let parts = readable_parts None r two.0 in
+    and_true (eqb (length r.readers) 0) (is_public r) (none_reads r.readers two.1) (and_true (is_none r.writer) (is_untaken r) (nobody r.writer parts.1) parts.0))
+had_by_none false rows = everywhere (λ r. may_have false None r ≡ true → is_public r ≡ true) rows (λ r h. let parts = readable_parts None r h in and_true (is_none r.writer) (is_untaken r) (nobody r.writer parts.1) parts.0)
+
+module _ {S : Type 0} (holders : HashMap ℕ (List ℕ) S) (x : ℕ) (own : List ℕ) (named : (n : ℕ) → names holders x n ≡ true → contains own n ≡ true) where
+  same_holder : (y : ℕ) → eqb x y ≡ true → eqb y x ≡ true
+  same_holder y h = eq-eqb y x (sym (eqb_eq x y h))
+
+  or_left : (c d : Bool) → c ≡ true → (c || d) ≡ true
+  or_left true d h = refl
+  or_left false d h = absurd (cc)
+
+  or_right : (c d : Bool) → d ≡ true → (c || d) ≡ true
+  or_right true d h = refl
+  or_right false d h = h
+
+  no_writer : (w : Option ℕ) (n : ℕ) → ((y : ℕ) → is_caller w y ≡ true → names holders y n ≡ true) → is_free_of (Some x) w ≡ true → (is_none w || contains own n) ≡ true
+  no_writer None n held h = refl
+  no_writer (Some y) n held h = named n (held x (same_holder y h))
+
+  no_reader : (readers : List ℕ) (n : ℕ) → AllByRecursion (λ y. names holders y n ≡ true) readers → list_all (is_caller (Some x)) readers ≡ true → (eqb (length readers) 0 || contains own n) ≡ true
+  no_reader [] n held h = refl
+  no_reader (y ∷ readers) n held h = or_right (eqb (length (y ∷ readers)) 0) (contains own n) (named n (subst (λ z. names holders z n ≡ true) (sym (eqb_eq x y (and_both (eqb x y) (list_all (is_caller (Some x)) readers) h).0)) held.0))
+
+  of_parts : (a b d : Bool) → (a || d) ≡ true → (b || d) ≡ true → ((a && b) || d) ≡ true
+  of_parts true true d p q = refl
+  of_parts true false d p q = q
+  of_parts false b d p q = p
+
+  public_or_own : (r : Row) → IsHeld holders r → readable (Some x) r ≡ true → (is_public r || contains own r.number) ≡ true
+  public_or_own r i h =
+      let parts = readable_parts (Some x) r h in
+      of_parts (is_none r.writer) (is_untaken r) (contains own r.number) (no_writer r.writer r.number i.by_writer parts.1) (or_left (is_untaken r) (contains own r.number) parts.0)
+
+  -- what a transaction may have that isn't its own is what nobody holds
+  pub had_or_own : (takes : Bool) (rows : List Row) → AreHeld holders rows → AreOpenOr (cond takes Held Hidden) own (may_have takes (Some x)) rows
+  had_or_own true rows held = each (IsHeld holders) (λ r. may_have true (Some x) r ≡ true → (is_free r || contains own r.number) ≡ true) rows held (λ r i h. let two = and_both (readable (Some x) r) (list_all (is_caller (Some x)) r.readers) h in
+      of_parts (eqb (length r.readers) 0) (is_public r) (contains own r.number) (no_reader r.readers r.number i.by_reader two.1) (public_or_own r i two.0))
+  had_or_own false rows held = each (IsHeld holders) (λ r. may_have false (Some x) r ≡ true → (is_public r || contains own r.number) ≡ true) rows held (λ r i h. public_or_own r i h)
+
+-- a transaction that holds some names them
+pub had_or_some : {S : Type 0} (holders : HashMap ℕ (List ℕ) S) (x : ℕ) (own : List ℕ) (takes : Bool) (rows : List Row) → get nat_eq holders x ≡ Some own → AreHeld holders rows → AreOpenOr (cond takes Held Hidden) own (may_have takes (Some x)) rows
+had_or_some holders x own takes rows some held = had_or_own holders x own (λ n h. sym (ap (λ o. option_map_or (λ ns. contains ns n) o false) some) ∙ h) takes rows held
+
+-- a transaction that holds nothing has no part in what others hold
+pub had_by_stranger : {S : Type 0} (holders : HashMap ℕ (List ℕ) S) (x : ℕ) → get nat_eq holders x ≡ None → (takes : Bool) (rows : List Row) → AreHeld holders rows → AreOpen (cond takes Held Hidden) (may_have takes (Some x)) rows
+had_by_stranger holders x none takes rows held =
+    each (λ r. may_have takes (Some x) r ≡ true → (is_open (cond takes Held Hidden) r || false) ≡ true) (λ r. may_have takes (Some x) r ≡ true → is_open (cond takes Held Hidden) r ≡ true) rows
+    (had_or_own holders x [] (λ n h. absurd (cc (h, ap (λ o. option_map_or (λ ns. contains ns n) o false) none))) takes rows held) (λ r g h. or_nothing (is_open (cond takes Held Hidden) r) (g h)) where
+      or_nothing : (b : Bool) → (b || false) ≡ true → b ≡ true
+      or_nothing true h = refl
+      or_nothing false h = absurd (cc)
+
+-- the first that is open, or one of these, is the first of all
+pub open_or_own : (u : Unseen) (own : List ℕ) (passed : Row → Bool) (after : ℕ) (rows : List Row) (other : Option Row) → AreNumbered rows → AreOpenOr u own passed rows
+    → IsLeast (is_next passed after) (λ r. contains own r.number) rows other
+    → lesser (find (is_next (λ r. is_open u r && passed r) after) rows) other ≡ find (is_next passed after) rows
+open_or_own u own passed after rows other up opens g =
+    least_first number (is_next passed after) (is_next passed after) rows (lesser (find (is_next (λ r. is_open u r && passed r) after) rows) other) up.rising (λ r h. h)
+    (least_among number (is_next passed after) (λ r. passed r ≡ true → kinds r ≡ true) kinds (is_next passed after) rows (lesser (find (is_next (λ r. is_open u r && passed r) after) rows) other) opens narrow
+    (least_of_both number (is_next passed after) (is_open u) (λ r. contains own r.number) kinds rows (find (is_next (λ r. is_open u r && passed r) after) rows) other (λ r h. or_cases (is_open u r) (contains own r.number) h)
+    (found_least number (is_next passed after) (is_next (λ r. is_open u r && passed r) after) (is_open u) rows up.rising sound full) g)) where
+      kinds : Row → Bool
+      kinds r = is_open u r || contains own r.number
+
+      narrow : (r : Row) → (passed r ≡ true → kinds r ≡ true) → is_next passed after r ≡ true → kinds r ≡ true
+      narrow r p n = p (and_both (nat_lt after r.number) (passed r) n).1
+
+      sound : (r : Row) → is_next (λ r. is_open u r && passed r) after r ≡ true → is_next passed after r ≡ true
+      sound r n =
+          let two = and_both (nat_lt after r.number) (is_open u r && passed r) n in
+          and_true (nat_lt after r.number) (passed r) two.0 (and_both (is_open u r) (passed r) two.1).1
+
+      full : (r : Row) → is_next passed after r ≡ true → is_open u r ≡ true → is_next (λ r. is_open u r && passed r) after r ≡ true
+      full r n o =
+          let two = and_both (nat_lt after r.number) (passed r) n in
+          and_true (nat_lt after r.number) (is_open u r && passed r) two.0 (and_true (is_open u r) (passed r) o two.1)
+
+-- what is open and passes is open
+pub open_first : (u : Unseen) (passed : Row → Bool) (rows : List Row) → AreOpen u (λ r. is_open u r && passed r) rows
+open_first u passed rows = everywhere (λ r. (is_open u r && passed r) ≡ true → is_open u r ≡ true) rows (λ r h. (and_both (is_open u r) (passed r) h).0)
+
+-- what passes may be had, in a list
+pub all_had : (u : Unseen) (takes : Bool) (x : Option ℕ) (passed : Row → Bool) (rows : List Row) → ((r : Row) → passed r ≡ true → may_have takes x r ≡ true) → AreOpen u (may_have takes x) rows → AreOpen u passed rows
+all_had u takes x passed rows had h = each (λ r. may_have takes x r ≡ true → is_open u r ≡ true) (λ r. passed r ≡ true → is_open u r ≡ true) rows h (λ r g p. g (had r p))
+
+pub all_had_or : (u : Unseen) (own : List ℕ) (takes : Bool) (x : Option ℕ) (passed : Row → Bool) (rows : List Row) → ((r : Row) → passed r ≡ true → may_have takes x r ≡ true) → AreOpenOr u own (may_have takes x) rows → AreOpenOr u own passed rows
+all_had_or u own takes x passed rows had h = each (λ r. may_have takes x r ≡ true → (is_open u r || contains own r.number) ≡ true) (λ r. passed r ≡ true → (is_open u r || contains own r.number) ≡ true) rows h (λ r g p. g (had r p))
+
+-- ---- what is offered or shown may be had
+
+pub offered_had : (classes : List Class) (b : Blocked) (r : Row) → offered classes b r ≡ true → may_have (is_take b.form) b.transaction r ≡ true
+offered_had classes b r h = (and_both (wanted classes b r) (may_have (is_take b.form) b.transaction r) h).1
+
+pub offered_asked : (classes : List Class) (b : Blocked) (r : Row) → offered classes b r ≡ true → is_asked classes b.space b.templates r ≡ true
+offered_asked classes b r h = (and_both (wanted classes b r) (may_have (is_take b.form) b.transaction r) h).0
+
+pub shown_had : (classes : List Class) (m : MatchSet) (r : Row) → shows classes m r ≡ true → readable m.transaction r ≡ true
+shown_had classes m r h = grind (arith, common_steps)
+
+-- whatever passes is had where nothing is unseen
+pub all_open : (passed : Row → Bool) (rows : List Row) → AreOpen Nothing passed rows
+all_open passed rows = everywhere (λ r. passed r ≡ true → true ≡ true) rows (λ r h. refl)

@@ -1,8 +1,0 @@
-use Rattle.std.proofs.Common.{List, sym, subst}
-use Rattle.jsp_model.specs.declared.state.Row.{Row}
-use Rattle.jsp_sight.specs.Rows.{shows}
-use Rattle.jsp_index.specs.Passed.{AreOpen}
-use Rattle.jsp_index.proofs.hinted.HintedRows.entries_shown.Goals as goal
-
-pub entries_found-requires-clause-had : goal.entries_found-requires-clause-had
-entries_found-requires-clause-had c = subst (λ (w : List Row). AreOpen c.unseen_in.result (shows c.args.classes.now c.args.set.now) w) (sym c.self.view_is) (c.unseen_in.ensures c.args.classes.now)
