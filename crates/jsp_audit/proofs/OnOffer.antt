@@ -1,16 +1,14 @@
 -- After a step each row that a waiting request may be given is on offer: it was before, or the step let it go, or it is new.
-use Rattle.std.proofs.Common.{◌≡◌, refl, sym, ap, ◌∙◌, subst, ℕ, ◌≤◌, ◌<◌, ◌⊎◌, inl, inr, List, [], ◌∷◌, map, filter, length, Bool, true, false, not, cond, ◌&&◌, ◌||◌, ◌==◌, Option, Some, None, nat_lt, true≢false, eqb-true, arith}
+use Rattle.std.proofs.Common.{◌≡◌, refl, sym, ap, ◌∙◌, subst, ℕ, ◌≤◌, ◌<◌, ◌⊎◌, inl, inr, List, [], ◌∷◌, map, filter, length, Bool, true, false, not, cond, ◌||◌, ◌==◌, Option, Some, None, nat_lt, true≢false, eqb-true, arith}
 use Rattle.std.specs.Prelude.{Result, Ok, Err, OnOk, OnErr}
 use Rattle.std.specs.List.{list_all}
-use Rattle.std.specs.Option.{option_map_or}
 use Rattle.std.proofs.lemmas.Bool.{and_parts, and_from, ltb-true, false_from_ne_true}
 use Rattle.jsp_model.specs.declared.state.State.{State}
 use Rattle.jsp_model.specs.declared.state.Row.{Row}
 use Rattle.jsp_model.specs.declared.state.Blocked.{Blocked}
 use Rattle.jsp_model.specs.declared.step.Step.{Step}
-use Rattle.jsp_model.specs.declared.step.Step.TheVariants as step
 use Rattle.jsp_model.specs.Lookup.{contains}
-use Rattle.jsp_model.specs.Sight.{is_available, available, is_if, has_conflict}
+use Rattle.jsp_model.specs.Sight.{is_available}
 use Rattle.jsp_model.specs.Quiet.{must_wait}
 use Rattle.jsp_model.specs.Changes.{close}
 use Rattle.jsp_model.specs.Steps.{next}

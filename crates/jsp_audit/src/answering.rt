@@ -1,11 +1,14 @@
 //! What a step says, and to whom, whether or not the session is open still.
-ghost use Rattle.std.specs.Prelude.{◌≡◌, ◌++◌, ◌∷◌, [], map, option_to_list, None, IfOk, IsTrue};
+ghost use Rattle.std.specs.Prelude.{◌≡◌, ◌++◌, ◌∷◌, [], map, option_to_list, true, None, IfOk, IsTrue};
 ghost use Rattle.jsp_wire.specs.Limits.{has_fitting_parts};
 ghost use Rattle.jsp_reply.specs.declared.reply.Reply.{Reply as PlainReply};
 ghost use Rattle.jsp_model.specs.Lookup.{blocked_of};
 ghost use Rattle.jsp_model.specs.Refusals.{refusal as refusal_of};
 ghost use Rattle.jsp_model.specs.Answers.{all_said as all_said_by, said_to_ask as said_to, said_to_blocked, said_when_due as said_at_end, entries_of as entries_in, answer as answer_of, told_others as told_to_others};
 ghost use Rattle.jsp_model.specs.Limits.{IsWithinLimits};
+ghost use Rattle.jsp_model.specs.Requests.{rows_asked};
+ghost use Rattle.jsp_model.specs.Steps.{has_its_rows};
+ghost use Rattle.jsp_audit.specs.Changing.{has_its_choice};
 ghost use Rattle.jsp_audit.specs.Judging.{refusal_in};
 
 use crate::asking::ask_of;
@@ -28,6 +31,7 @@ pub(crate) fn all_said(
     refused: Option<Refusal>,
 ) -> Result<Vec<(u64, Reply)>, NoMemory>
     requires limits { IsWithinLimits state.now }
+    requires choice { has_its_choice state.now step.now ≡ true }
     requires refused { refused ≡ refusal_in state.now step.now }
     ensures { IfOk result (λ v. v.items ≡ all_said_by state.now step.now) }
 {
@@ -70,6 +74,7 @@ fn said_to_ask(
     refused: Option<Refusal>,
 ) -> Result<Vec<(u64, Reply)>, NoMemory>
     requires limits { IsWithinLimits state.now }
+    requires choice { has_its_rows state.now session asked.now.id rows.now (refusal_of state.now session asked.now.id asked.now.ask) (rows_asked asked.now.ask) ≡ true }
     requires refused { refused ≡ refusal_of state.now session asked.now.id asked.now.ask }
     ensures { IfOk result (λ v. v.items ≡ said_to state.now session asked.now.id rows.now asked.now.ask (refusal_of state.now session asked.now.id asked.now.ask)) }
 {
@@ -98,6 +103,7 @@ fn said_when_accepted(
     requires limits { IsWithinLimits state.now }
     requires fits { IsTrue (has_fitting_parts ask.now) }
     requires accepted { refusal_of state.now session id ask.now ≡ None }
+    requires given { has_its_rows state.now session id rows.now None (rows_asked ask.now) ≡ true }
     ensures { IfOk result (λ v. v.items ≡ map (λ (x : PlainReply). (session, x)) (answer_of state.now session id rows.now ask.now) ++ told_to_others state.now ask.now) }
 {
     let mut replies = to_session(

@@ -140,6 +140,7 @@ pub fn accept_many(
     requires numbers { state.old.next_number ≤ LAST_NUMBER + 1 }
     requires rows { IsTrue (are_rising 0 state.old.next_number (map (λ r. r.number) state.old.rows)) }
     requires accepted { first_that (rows_tests state.old session id (many_of search.now)) ≡ None }
+    requires some { 1 ≤ search.now.most }
     requires given { is_choice state.old (waiting_as state.old session id (many_of search.now)) rows.now ≡ true }
     ensures ok { OnOk result (state.new ≡ give_or_block state.old session id (many_of search.now) rows.now) }
     ensures err { OnErr result (state.new ≡ state.old) }
@@ -160,6 +161,7 @@ pub fn answer_one(
 ) -> Result<Option<Reply>, NoMemory>
     requires time { state.now.time ≤ LAST_TIME }
     requires accepted { first_that (rows_tests state.now session id (one_of form search.now)) ≡ None }
+    requires given { is_choice state.now (waiting_as state.now session id (one_of form search.now)) rows.now ≡ true }
     ensures { IfOk result (λ r. option_to_list r ≡ rows_answer state.now session id rows.now (one_of form search.now)) }
 {
     let asked = one_row(form, search);
@@ -177,6 +179,8 @@ pub fn answer_many(
 ) -> Result<Option<Reply>, NoMemory>
     requires time { state.now.time ≤ LAST_TIME }
     requires accepted { first_that (rows_tests state.now session id (many_of search.now)) ≡ None }
+    requires some { 1 ≤ search.now.most }
+    requires given { is_choice state.now (waiting_as state.now session id (many_of search.now)) rows.now ≡ true }
     ensures { IfOk result (λ r. option_to_list r ≡ rows_answer state.now session id rows.now (many_of search.now)) }
 {
     let asked = many_rows(search);

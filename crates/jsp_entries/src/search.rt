@@ -1,14 +1,14 @@
 //! Reading and taking: `read`, `take`, their IfExists forms, and `take_many`.
-ghost use Rattle.std.specs.Prelude.{◌≡◌, ◌≤◌, ◌<◌, ◌^◌, false, length, map, option_map, option_to_list, if◌then◌else◌, None, Some, IfOk, OnOk, OnErr, IsTrue};
+ghost use Rattle.std.specs.Prelude.{◌≡◌, ◌≤◌, ◌<◌, ◌^◌, true, false, length, map, option_map, option_to_list, if◌then◌else◌, None, Some, IfOk, OnOk, OnErr, IsTrue};
 ghost use Rattle.jsp_types.specs.Tests.{first_that};
 ghost use Rattle.jsp_model.specs.declared.state.Form.TheVariants as form;
 ghost use Rattle.jsp_model.specs.declared.state.Blocked.{Blocked as Waiting};
 ghost use Rattle.jsp_model.specs.Lookup.{blocked_of};
 ghost use Rattle.jsp_model.specs.Sight.{is_take as takes};
 ghost use Rattle.jsp_model.specs.Limits.{are_rising};
-ghost use Rattle.jsp_model.specs.Requests.{would_block as blocks};
+ghost use Rattle.jsp_model.specs.Requests.{would_block as blocks, as_blocked as waiting_as};
 ghost use Rattle.jsp_model.specs.Changes.{block, give as given, give_or_block};
-ghost use Rattle.jsp_model.specs.Steps.{after_grant};
+ghost use Rattle.jsp_model.specs.Steps.{after_grant, is_choice};
 ghost use Rattle.jsp_model.specs.Answers.{rows_answer, is_many as many};
 ghost use Rattle.jsp_model.specs.Refusals.{rows_tests, is_negative as lies_below_zero};
 ghost use Rattle.jsp_state.specs.Fitting.{AllFit};
@@ -22,8 +22,8 @@ use jsp_core::Core;
 use jsp_model::{Blocked, Form};
 use jsp_reply::{Refusal, Reply};
 use jsp_state::{
-    caller_of, entries_of, is_used_up, must_wait, named, place_of, space_refusal,
-    templates_refusal, waits_for_many,
+    caller_of, entries_of, has_conflict, is_if, is_used_up, must_wait, named, place_of,
+    space_refusal, templates_refusal, waits_for_many,
 };
 use jsp_transactions::{join, leave};
 use jsp_types::{Entry, Items, NoMemory};
@@ -72,8 +72,12 @@ fn refuse_to_wait(
         return Ok(None);
     };
     // Whether it would wait is looked at last, since it is dear.
-    let waits = would_block(alloc, state, session, id, asked)?;
-    Ok(if waits { Some(refusal) } else { None })
+    let blocked = as_blocked(alloc, state, session, id, asked)?;
+    if must_wait(state, &blocked) {
+        Ok(Some(refusal))
+    } else {
+        Ok(None)
+    }
 }
 
 /// Why no request of the session can wait now, if none can.
@@ -95,45 +99,52 @@ fn is_negative(asked: &RowsAsked) -> bool
     asked.timeout < 0
 }
 
-/// Whether the request would wait.
-fn would_block(
+/// Whether the request waits, which is given these rows. One that is given some doesn't, so nothing is
+/// searched for again.
+fn would_wait(
     alloc: Global,
     state: &Core,
     session: u64,
     id: u64,
+    rows: &[u64],
     asked: &RowsAsked,
 ) -> Result<bool, NoMemory>
     requires time { state.now.time ≤ LAST_TIME }
     requires templates { AllFit state.now.classes asked.now.templates.now }
+    requires some { 1 ≤ asked.now.most }
+    requires given { is_choice state.now (waiting_as state.now session id (rows_of asked.now)) rows.now ≡ true }
     ensures { IfOk result (λ b. b ≡ blocks state.now session id (rows_of asked.now)) }
 {
-    match to_wait(alloc, state, session, id, asked)? {
-        None => Ok(false),
-        Some(_) => Ok(true),
+    if named(asked.timeout) == 0 || !rows.is_empty() {
+        return Ok(false);
     }
+    if !is_if(asked.form) {
+        return Ok(true);
+    }
+    let blocked = as_blocked(alloc, state, session, id, asked)?;
+    Ok(has_conflict(state, &blocked))
 }
 
-/// The request as it waits, if it would wait. One that doesn't want to takes no memory.
+/// The request as it waits, if it waits. One that doesn't takes no memory.
 fn to_wait(
     alloc: Global,
     state: &Core,
     session: u64,
     id: u64,
+    rows: &[u64],
     asked: &RowsAsked,
 ) -> Result<Option<Blocked>, NoMemory>
     requires time { state.now.time ≤ LAST_TIME }
     requires templates { AllFit state.now.classes asked.now.templates.now }
+    requires some { 1 ≤ asked.now.most }
+    requires given { is_choice state.now (waiting_as state.now session id (rows_of asked.now)) rows.now ≡ true }
     ensures { IfOk result (λ o. o ≡ if_blocked state.now session id (rows_of asked.now)) }
 {
-    if named(asked.timeout) == 0 {
+    if !would_wait(alloc, state, session, id, rows, asked)? {
         return Ok(None);
     }
     let blocked = as_blocked(alloc, state, session, id, asked)?;
-    if must_wait(state, &blocked) {
-        Ok(Some(blocked))
-    } else {
-        Ok(None)
-    }
+    Ok(Some(blocked))
 }
 
 /// Gives the request its rows, or lets it wait for some, whole or not at all. Its space joins its
@@ -150,11 +161,13 @@ pub fn accept_search(
     requires numbers { state.old.next_number < 2 ^ 63 }
     requires rows { IsTrue (are_rising 0 state.old.next_number (map (λ r. r.number) state.old.rows)) }
     requires accepted { first_that (rows_tests state.old session id (rows_of asked.now)) ≡ None }
+    requires some { 1 ≤ asked.now.most }
+    requires given { is_choice state.old (waiting_as state.old session id (rows_of asked.now)) rows.now ≡ true }
     requires one { takes asked.now.form ≡ false → length rows.now ≤ 1 }
     ensures ok { OnOk result (state.new ≡ give_or_block state.old session id (rows_of asked.now) rows.now) }
     ensures err { OnErr result (state.new ≡ state.old) }
 {
-    let waiting = to_wait(alloc, state, session, id, asked)?;
+    let waiting = to_wait(alloc, state, session, id, rows, asked)?;
     let joining = join(state, caller_of(asked.txn), place_of(state, asked.space))?;
     match block_or_give(state, asked, waiting, rows) {
         Ok(()) => Ok(()),
@@ -226,9 +239,11 @@ pub fn answer_search(
 ) -> Result<Option<Reply>, NoMemory>
     requires time { state.now.time ≤ LAST_TIME }
     requires accepted { first_that (rows_tests state.now session id (rows_of asked.now)) ≡ None }
+    requires some { 1 ≤ asked.now.most }
+    requires given { is_choice state.now (waiting_as state.now session id (rows_of asked.now)) rows.now ≡ true }
     ensures { IfOk result (λ r. option_to_list r ≡ rows_answer state.now session id rows.now (rows_of asked.now)) }
 {
-    if would_block(alloc, state, session, id, asked)? {
+    if would_wait(alloc, state, session, id, rows, asked)? {
         return Ok(None);
     }
     let entries = entries_of(alloc, state, rows)?;

@@ -228,6 +228,7 @@ pub fn answer(
     requires bearers { (n : ℕ) → bearers state.now n ≤ 1 }
     requires fits { IsTrue (has_fitting_parts ask.now) }
     requires accepted { refusal_of state.now session id ask.now ≡ None }
+    requires given { has_its_rows state.now session id rows.now None (rows_asked ask.now) ≡ true }
     ensures { IfOk result (λ r. option_to_list r ≡ answer_of state.now session id rows.now ask.now) }
 {
     own_answer(alloc, state, session, id, ask, rows)
@@ -246,6 +247,7 @@ fn own_answer(
     requires bearers { (n : ℕ) → bearers state.now n ≤ 1 }
     requires fits { IsTrue (has_fitting_parts ask.now) }
     requires accepted { first_that (own_tests state.now session id ask.now) ≡ None }
+    requires given { has_its_rows state.now session id rows.now None (rows_asked ask.now) ≡ true }
     ensures { IfOk result (λ r. option_to_list r ≡ answer_of state.now session id rows.now ask.now) }
 {
     match ask {

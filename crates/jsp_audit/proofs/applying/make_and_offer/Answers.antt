@@ -1,4 +1,4 @@
-use Rattle.std.proofs.Common.{◌≡◌, ◌∙◌, ap, sym, subst, ℕ, ◌≤◌, ◌<◌}
+use Rattle.std.proofs.Common.{◌∙◌, ap, sym, subst, ◌≤◌, ◌<◌}
 use Rattle.std.specs.Prelude.{IsTrue}
 use Rattle.std.proofs.lemmas.Result.{on_ok_weaker, on_err_weaker}
 use Rattle.jsp_model.specs.declared.state.State.{State}

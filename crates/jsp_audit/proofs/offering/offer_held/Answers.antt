@@ -1,4 +1,4 @@
-use Rattle.std.proofs.Common.{◌≡◌, ◌∙◌, ap, sym, subst, true, not, ◌||◌, ℕ, List}
+use Rattle.std.proofs.Common.{◌≡◌, sym, subst, true, not, ◌||◌, ℕ, List}
 use Rattle.std.specs.List.{list_all}
 use Rattle.jsp_model.specs.declared.state.State.{State}
 use Rattle.jsp_model.specs.declared.state.Row.{Row}

@@ -1,4 +1,4 @@
-use Rattle.std.proofs.Common.{◌≡◌, ◌∙◌, Result, Err, sym, subst}
+use Rattle.std.proofs.Common.{◌≡◌, ◌∙◌, Result, sym, subst}
 use Rattle.std.specs.Prelude.{IfErr}
 use Rattle.std.proofs.lemmas.Result.{err_from_is_err_and}
 use Rattle.jsp_model.specs.declared.state.State.{State}

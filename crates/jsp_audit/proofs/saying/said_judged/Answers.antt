@@ -5,8 +5,12 @@ use Rattle.std.proofs.lemmas.Result.{IfOk-weaker}
 use Rattle.jsp_reply.specs.Limits.{is_within_limits}
 use Rattle.jsp_model.specs.Answers.{Saying}
 use Rattle.jsp_limits.proofs.Sayings.{said_fits}
+use Rattle.jsp_audit.proofs.Chosen.{legal_choice}
 use Rattle.jsp_audit.proofs.Stepping.{heard_is}
 use Rattle.jsp_audit.proofs.saying.said_judged.Goals as goal
+
+pub all_said-requires-clause-choice : goal.all_said-requires-clause-choice
+all_said-requires-clause-choice c = rw c.state-state.ensures.state (legal_choice c.args.image.now c.args.step.now c.requires.legal)
 
 pub within_limits-requires : goal.within_limits-requires
 within_limits-requires c =
