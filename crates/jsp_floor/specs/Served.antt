@@ -1,5 +1,10 @@
 -- What the threads of a run answer.
-use Rattle.std.specs.Prelude.{Option, Some, None}
+use Rattle.std.specs.Prelude.{◌≡◌, ◌⊎◌, ℕ, Bool, List, [], ◌∷◌, ◌++◌, Option, Some, None, Vec}
+use Rattle.std.specs.declared.alloc.Global.{Global}
+use Rattle.jsp_closing.specs.declared.closed.Ended.{Ended}
+use Rattle.jsp_line.specs.declared.half.Health.{Health}
+use Rattle.jsp_line.specs.declared.half.Health.TheVariants as health
+use Rattle.jsp_closing.specs.declared.closed.LineReport.{LineReport}
 use Rattle.jsp_model.specs.declared.house.Why.{Why}
 use Rattle.jsp_model.specs.declared.house.Why.TheVariants as why
 use Rattle.jsp_closing.specs.declared.closed.RunFault.{RunFault}
@@ -21,3 +26,22 @@ noted (Some first) met = Some first
 abbrev pub noted_stop : Option RunFault → Option Why → Option RunFault
 noted_stop known None = known
 noted_stop known (Some why) = noted known (fault_of why)
+
+abbrev pub noted_health : Option RunFault → Health → Option RunFault
+noted_health known health.NoMemory = noted known fault.NoMemory
+noted_health known health.Failed = known
+noted_health known health.Sound = known
+
+-- the faults that a line met: those of its two threads, and that an answer found no memory
+abbrev pub noted_line : Option RunFault → Option Why → Option Why → Health → Option RunFault
+noted_line known read other health = noted_health (noted_stop (noted_stop known read) other) health
+
+-- what is reported of a line
+abbrev pub report_of : ℕ → Ended → Vec ℕ Global → Vec ℕ Global → Bool → Bool → LineReport
+report_of session ended read written read_failed write_failed =
+    record { session = session; ended = ended; read = read; written = written; read_failed = read_failed; write_failed = write_failed }
+
+-- the report stands behind the others, or there was no memory for it, which is a fault
+abbrev pub Adds : List LineReport → List LineReport → Option RunFault → Option RunFault → LineReport → Type 0
+Adds old new fault_old fault_new report =
+    ((new ≡ old ++ report ∷ []) × (fault_new ≡ fault_old)) ⊎ ((new ≡ old) × (fault_new ≡ noted fault_old fault.NoMemory))

@@ -6,10 +6,9 @@ ghost use Rattle.jsp_line.specs.Seats.{IsSeated};
 ghost use denote.Param.Send.{IsSync, IsSend};
 
 use crate::door::{Door, Knock};
-use crate::end::end;
+use crate::end::finish;
 use crate::lines::Lines;
-use crate::served::{Served, fault_of};
-use jsp_closing::{Closed, RunFault, close};
+use jsp_closing::{Closed, RunFault};
 use jsp_kept::{AskSeat, Backlog, Kept, OutSeat};
 use jsp_line::{Clock, Counts, Floor, Gate, Hangup, Shared, start};
 use jsp_model::Config;
@@ -267,14 +266,7 @@ fn run_in<
     server.serve_all::<R, W, D>(&mut door);
     drop(server);
     drop(gate);
-    let Served { reports, fault } = lines.into_served();
-    if let Some(fault) = fault {
-        return Err(fault);
-    }
-    match end(rt, config, floor.into_kept()) {
-        Ok(era) => close(alloc, config, era, reports),
-        Err(why) => Err(fault_of(why)),
-    }
+    finish(rt, alloc, config, floor.into_kept(), lines.into_served())
 }
 
 /// Serves the lines of a door over an empty house until the door is closed and all have ended. A line above

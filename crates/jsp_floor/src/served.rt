@@ -1,8 +1,8 @@
 //! What a run's lines read and wrote, and the faults that were met.
-ghost use Rattle.std.specs.Prelude.{◌≡◌, ◌++◌, ◌∷◌, ◌⊎◌, [], nat_lt, IfNone, IfSome};
-ghost use Rattle.jsp_closing.specs.declared.closed.RunFault.TheVariants.{NoMemory};
+ghost use Rattle.std.specs.Prelude.{◌≡◌, ◌⊎◌, ℕ, [], nat_lt, IfNone, IfSome, Vec};
+ghost use Rattle.std.specs.declared.alloc.Global.{Global};
 ghost use Rattle.jsp_line.specs.declared.transcript.Transcript.TheVariants.{Dropped, Whole};
-ghost use Rattle.jsp_floor.specs.Served.{fault_of, noted, noted_stop};
+ghost use Rattle.jsp_floor.specs.Served.{Adds, fault_of, noted, noted_line, noted_stop, report_of};
 
 use jsp_closing::{LineReport, RunFault};
 use jsp_line::{Counted, Health, LineDone, OutDone, ReadDone};
@@ -30,7 +30,7 @@ pub(crate) fn fault_of(why: Why) -> RunFault
 }
 
 // What a line read and wrote, unless its bytes weren't all kept: an era was sealed, or memory was wanting.
-fn report_of<A: Ledger, O: Ledger, R: Read + Drop, W: Write + Drop>(
+fn report<A: Ledger, O: Ledger, R: Read + Drop, W: Write + Drop>(
     reader: Counted<R>,
     read: ReadDone<A>,
     out: OutDone<O, W>,
@@ -86,7 +86,7 @@ impl Served {
 
     // Adds a report, or none is kept any more.
     fn add_report(&mut self, report: Option<LineReport>)
-        ensures some { IfSome report (λ one. (self.new.reports.items ≡ self.old.reports.items ++ one ∷ []) ⊎ (self.new.fault ≡ noted self.old.fault NoMemory)) }
+        ensures some { IfSome report (λ one. Adds self.old.reports.items self.new.reports.items self.old.fault self.new.fault one) }
         ensures none { IfNone report ((self.new.reports.items ≡ []) × (self.new.fault ≡ self.old.fault)) }
     {
         match report {
@@ -99,11 +99,18 @@ impl Served {
         }
     }
 
-    /// Adds what a line read and wrote, and the faults that it met.
+    /// Adds what a line read and wrote, and the faults that it met. Where its bytes weren't all kept, no report is
+    /// kept any more.
     pub(crate) fn add_line<A: Ledger, O: Ledger, R: Read + Drop, W: Write + Drop>(
         &mut self,
         done: LineDone<A, O, R, W>,
-    ) {
+    )
+        ensures kept { (read written : Vec ℕ Global) → done.read.transcript ≡ Whole read → done.out.transcript ≡ Whole written
+            → Adds self.old.reports.items self.new.reports.items (noted_line self.old.fault done.read.why done.why done.out.health) self.new.fault
+            (report_of done.read.seat.session done.read.ended read written (nat_lt 0 done.reader.failures) (nat_lt 0 done.out.writer.failures)) }
+        ensures dropped { (done.read.transcript ≡ Dropped) ⊎ (done.out.transcript ≡ Dropped)
+            → (self.new.reports.items ≡ []) × (self.new.fault ≡ noted_line self.old.fault done.read.why done.why done.out.health) }
+    {
         let LineDone {
             reader,
             read,
@@ -115,6 +122,6 @@ impl Served {
         if out.health == Health::NoMemory {
             self.fail(RunFault::NoMemory);
         }
-        self.add_report(report_of(reader, read, out));
+        self.add_report(report(reader, read, out));
     }
 }
