@@ -1,12 +1,15 @@
-"""A server that is ended in order while requests of its clients are under way.
+"""A server that is ended in order while requests of its clients are under way, and one that is halted and goes on.
 
     python3 ending.py PROGRAM..
 
 Each request is sent and the server asked to end at once, so that it may come before the end or after it. It prints nothing
 where the server says each time that it compared its lines, and ends with status 0.
 """
+import os
+import signal
 import subprocess
 import sys
+import time
 from pathlib import Path
 
 sys.path.insert(0, str(Path(__file__).parent.parent / "clients"))
@@ -21,16 +24,22 @@ REQUESTS = {
 }
 
 
-def end_at(program, op, keys):
-    """Ends a server at a request, and gives its status and what it says."""
+def listen(program, *options):
+    """A server that ends at a line of input, and its address."""
     server = subprocess.Popen(
-        [*program, "listen", "--until-input", "127.0.0.1:0", "a", "b"],
+        [*program, "listen", "--until-input", *options, "127.0.0.1:0", "a", "b"],
         stdin=subprocess.PIPE,
         stdout=subprocess.PIPE,
         stderr=subprocess.PIPE,
     )
     host, port = server.stdout.readline().decode().split()[1].rsplit(":", 1)
-    with Client(host, int(port)) as jsp:
+    return server, host, int(port)
+
+
+def end_at(program, op, keys):
+    """Ends a server at a request, and gives its status and what it says."""
+    server, host, port = listen(program)
+    with Client(host, port) as jsp:
         jsp.declare("Job", k="int")
         jsp.call("txn", lease=60_000)
         jsp.send(op, **keys)
@@ -38,6 +47,22 @@ def end_at(program, op, keys):
     return server.returncode, told
 
 
+def halt(program):
+    """Halts a server for a moment while a connection of it is read, with a bound on its time: the connection lives on."""
+    server, host, port = listen(program, "--idle", "60")
+    with Client(host, port) as jsp:
+        for _ in range(3):
+            jsp.declare("Job", k="int")
+            time.sleep(0.1)
+            server.send_signal(signal.SIGSTOP)
+            os.waitid(os.P_PID, server.pid, os.WSTOPPED)
+            server.send_signal(signal.SIGCONT)
+            time.sleep(0.1)
+        told = server.communicate(b"\n", timeout=60)[1]
+    assert (server.returncode, told) == (0, b"jsp: compared 1 lines\n"), (server.returncode, told)
+
+
+halt(sys.argv[1:])
 for op, keys in REQUESTS.items():
     for _ in range(ROUNDS):
         ended = end_at(sys.argv[1:], op, keys)

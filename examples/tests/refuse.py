@@ -1,4 +1,4 @@
-"""The program where memory or threads are refused, growth by growth and thread by thread.
+"""The program where memory, threads, connections or what it sends are refused, one by one.
 
     python3 refuse.py CASE LIBRARY PROGRAM..
 
@@ -20,7 +20,8 @@ sys.path.insert(0, str(TESTS.parent / "clients"))
 from jsp import LONGEST, Client, Refused, entry  # noqa: E402
 
 SECONDS = 60
-GROWTHS, THREADS = 0, 24  # where the control file has the three numbers of each
+GROWTHS, THREADS, ACCEPTS, SENDS = 0, 24, 48, 72  # where the control file has the three numbers of each
+REASONS = 7  # why a connection is refused
 MANY = 2**62
 
 
@@ -29,9 +30,9 @@ class Refusing:
 
     def __init__(self, library, program):
         self.file = tempfile.NamedTemporaryFile()
-        self.file.write(bytes(48))
+        self.file.write(bytes(96))
         self.file.flush()
-        self.control = mmap.mmap(self.file.fileno(), 48)
+        self.control = mmap.mmap(self.file.fileno(), 96)
         self.program = program
         self.environment = {**os.environ, "LD_PRELOAD": library, "REFUSE": self.file.name}
 
@@ -64,7 +65,8 @@ class Refusing:
 
 def scripts(refusing):
     """Each growth of a script is refused: it prints what it prints else, or nothing and that memory is wanting."""
-    names = ["events", "leases", "listing", "subclasses", "transfer", "workers"]
+    names = ["events", "frames", "goodbye", "interrupted", "leases", "listing", "subclasses", "transfer", "workers"]
+    names.append("tests/an_if_form_waits_for_a_conflict")
     for name in names:
         text = (TESTS.parent / f"{name}.script").read_bytes()
         printed = (TESTS.parent / f"{name}.expected").read_bytes()
@@ -221,6 +223,32 @@ def lonely(refusing):
     assert (said, server.returncode) == (b"jsp: compared 3 lines\n", 0), (said, server.returncode)
 
 
+def accepts(refusing):
+    """No connection can be taken, for each reason in turn: the listener takes the next, and is at no fault."""
+    server, address = refusing.listen("--until-input")
+    refusing.refuse(ACCEPTS, 1, 2 * REASONS)
+    # The listener waits for this one already.
+    write_and_take(address)
+    write_and_take(address)
+    assert refusing.count(ACCEPTS) > 2 * REASONS, refusing.count(ACCEPTS)
+    said = server.communicate(b"\n", SECONDS)[1]
+    assert (said, server.returncode) == (b"jsp: compared 2 lines\n", 0), (said, server.returncode)
+
+
+def sends(refusing):
+    """Of what is sent a connection takes one byte at a time: all of it comes, and in order."""
+    server, address = refusing.listen("--until-input")
+    refusing.refuse(SENDS, 1, MANY)
+    course = Course(address, 0)
+    course.first()
+    course.second()
+    course.check()
+    assert course.is_moved and course.is_taken
+    assert refusing.count(SENDS) > 500, refusing.count(SENDS)
+    said = server.communicate(b"\n", SECONDS)[1]
+    assert (said, server.returncode) == (b"jsp: compared 3 lines\n", 0), (said, server.returncode)
+
+
 def shell(refusing):
     """Each growth of a shell client is refused, alone and with all that follow it: it says that memory is wanting. Where its
     thread is refused, or a growth for it, it says that."""
@@ -253,7 +281,7 @@ def shell(refusing):
     server.kill()
 
 
-CASES = {case.__name__: case for case in (scripts, served, famine, threads, lonely, shell)}
+CASES = {case.__name__: case for case in (scripts, served, famine, threads, lonely, accepts, sends, shell)}
 
 if __name__ == "__main__":
     if sys.argv[1] == "cases":

@@ -12,6 +12,7 @@ import struct
 import subprocess
 import sys
 import time
+from pathlib import Path
 
 SECONDS = 60
 
@@ -157,6 +158,23 @@ def each_operation(program, address):
             same(shell.read(), wanted)
     shell.ran.wait(SECONDS)
     same(shell.end(), ("", "", 0))
+
+
+def the_session_of_the_readme(program, address):
+    """What README.md shows of a session is what comes of it. A line that isn't told or printed is one that is typed."""
+    text = (Path(__file__).parents[2] / "README.md").read_text()
+    session = text.split("```text\n", 1)[1].split("```", 1)[0].splitlines()
+    assert len(session) > 10, session
+    shell = Shell(program, address)
+    told = ""
+    for line in session:
+        if line.startswith("{"):
+            same(shell.read(), line)
+        elif line.startswith("jsp: "):
+            told += line + "\n"
+        else:
+            shell.write(line)
+    same(shell.end(), ("", told, 1))
 
 
 def what_is_refused(program, address):
@@ -310,6 +328,7 @@ def a_server_that_is_not_there(program):
 # With how many connections each opens.
 CASES = {
     each_operation: 1,
+    the_session_of_the_readme: 1,
     what_is_refused: 1,
     bad_lines: 1,
     bytes_that_are_no_text: 1,

@@ -151,7 +151,9 @@ fn listen<'a>(alloc: Global) -> Result<Command<'a>, AllocError> {
         "Shows its status there to a browser, and as JSON at /status.json [default: nowhere]",
     );
     let address = Arg::new(alloc, ADDRESS)
-        .help("Where to listen, as 127.0.0.1:7070; port 0 takes a free one")
+        .help(
+            "Where to listen, as 127.0.0.1:7070; port 0 takes a free one. Whoever reaches it may do everything",
+        )
         .required(true);
     Command::new(alloc, LISTEN)
         .about("Serves clients over TCP, and says where once it listens")

@@ -1,4 +1,6 @@
 //! Where a server's lines come from: the connections of a listener.
+ghost use Rattle.std.specs.Prelude.{◌≤◌, length, IfOk};
+
 use crate::server::Service;
 use crate::stop::Stop;
 use jsp_floor::{Door, Hangup, Knock};
@@ -18,6 +20,9 @@ const NO_ROOM: [i32; 4] = [12, 23, 24, 105];
 
 /// The error of Linux that says that a connection was broken before it was accepted: `EPROTO`.
 const BROKEN: i32 = 71;
+
+/// How often a read or a write that was interrupted is made again.
+const INTERRUPTIONS: u32 = 1000;
 
 /// The next connections of a listener, as many as its service is of.
 #[derive(Drop)]
@@ -116,6 +121,12 @@ fn has_no_room(error: &io::Error) -> bool {
     }
 }
 
+/// Whether a call is to be made again: where it has a bound on its time, a program that is halted and goes on
+/// interrupts it.
+fn is_interrupted(done: &io::Result<usize>) -> bool {
+    matches!(done, Err(error) if error.kind() == ErrorKind::Interrupted)
+}
+
 /// The reading half of a connection.
 #[derive(Drop)]
 pub(crate) struct Incoming(Arc<TcpStream>);
@@ -123,6 +134,12 @@ pub(crate) struct Incoming(Arc<TcpStream>);
 impl Read for Incoming {
     fn read(&mut self, bytes: &mut [u8]) -> io::Result<usize> {
         let mut stream = &*self.0;
+        for _ in 0..INTERRUPTIONS {
+            let read = stream.read(bytes);
+            if !is_interrupted(&read) {
+                return read;
+            }
+        }
         stream.read(bytes)
     }
 }
@@ -133,8 +150,7 @@ pub(crate) struct Outgoing(Arc<TcpStream>);
 
 impl Write for Outgoing {
     fn write(&mut self, bytes: &[u8]) -> io::Result<usize> {
-        let mut stream = &*self.0;
-        let written = stream.write(bytes);
+        let written = write_to(&*self.0, bytes);
         if !matches!(written, Ok(1..)) && !bytes.is_empty() {
             let _ = self.0.shutdown(Shutdown::Both);
         }
@@ -144,6 +160,19 @@ impl Write for Outgoing {
     fn flush(&mut self) -> io::Result<()> {
         Ok(())
     }
+}
+
+fn write_to(stream: &TcpStream, bytes: &[u8]) -> io::Result<usize>
+    ensures { IfOk result (λ n. n ≤ length bytes.now) }
+{
+    let mut stream = stream;
+    for _ in 0..INTERRUPTIONS {
+        let written = stream.write(bytes);
+        if !is_interrupted(&written) {
+            return written;
+        }
+    }
+    stream.write(bytes)
 }
 
 /// A whole connection, which can be ended while its halves are in use.
