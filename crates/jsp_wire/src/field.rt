@@ -5,14 +5,11 @@ ghost use Rattle.jsp_wire.specs.Parts.{Gives, is_known, only, only_members, or_n
 ghost use Rattle.serde_json.specs.Find.{as_str};
 
 use crate::Version;
+use crate::adding::add;
 use crate::fault::Flaw;
 use crate::tree::{Members, Tree};
 use jsp_types::{Items, Kind, Raw, Text, Value};
 use std::alloc::Global;
-
-/// Room that is made at once for a list of parts. More is made only for parts that were read, so that
-/// a long list of which the first is wrong costs little.
-pub(crate) const FIRST_ROOM: usize = 32;
 
 /// Whether the value is an object with no key beside these.
 pub(crate) fn only(json: &Tree<'_>, names: &[&str]) -> Result<(), Flaw>
@@ -174,10 +171,11 @@ fn value(alloc: Global, json: &Tree<'_>) -> Result<Value, Flaw>
 fn values(alloc: Global, members: &Members<'_>) -> Result<Items<(Text, Value)>, Flaw>
     ensures { Gives result (each_member value_of (members_view members.now.entries)) }
 {
-    let mut found = Items::from_vec(Vec::with_capacity(alloc, members.len().min(FIRST_ROOM))?);
+    let mut found = Items::new(alloc);
     for (name, json) in members.iter() {
         let value = value(alloc, json)?;
-        found.push((text(alloc, name)?, value))?;
+        let name = text(alloc, name)?;
+        add(&mut found, (name, value), members.len())?;
     }
     Ok(found)
 }
@@ -215,10 +213,11 @@ fn kind(json: &Tree<'_>) -> Result<Option<Kind>, Flaw>
 fn kinds(alloc: Global, members: &Members<'_>) -> Result<Items<(Text, Option<Kind>)>, Flaw>
     ensures { Gives result (each_member kind_of (members_view members.now.entries)) }
 {
-    let mut found = Items::from_vec(Vec::with_capacity(alloc, members.len().min(FIRST_ROOM))?);
+    let mut found = Items::new(alloc);
     for (name, json) in members.iter() {
         let kind = kind(json)?;
-        found.push((text(alloc, name)?, kind))?;
+        let name = text(alloc, name)?;
+        add(&mut found, (name, kind), members.len())?;
     }
     Ok(found)
 }

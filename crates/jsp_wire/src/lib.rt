@@ -10,6 +10,7 @@
 #![tactic(auto)]
 
 mod added;
+mod adding;
 mod ask;
 mod asked;
 mod fault;

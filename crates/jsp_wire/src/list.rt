@@ -2,8 +2,9 @@
 ghost use Rattle.jsp_wire.specs.Tree.{view, items_view};
 ghost use Rattle.jsp_wire.specs.Parts.{Gives, number_of, each_item, two_numbers, pair_of, numbers_at, pairs_at, raw_of, template_of, entries_at, templates_at};
 
+use crate::adding::add;
 use crate::fault::Flaw;
-use crate::field::{FIRST_ROOM, raw, template};
+use crate::field::{raw, template};
 use crate::tree::Tree;
 use jsp_types::{Items, Raw};
 use std::alloc::Global;
@@ -17,10 +18,10 @@ fn number(json: &Tree<'_>) -> Result<i64, Flaw>
 fn numbers(alloc: Global, items: &[Tree<'_>]) -> Result<Items<i64>, Flaw>
     ensures { Gives result (each_item number_of (items_view items.now)) }
 {
-    let mut found = Items::from_vec(Vec::with_capacity(alloc, items.len().min(FIRST_ROOM))?);
+    let mut found = Items::new(alloc);
     for json in items {
         let number = number(json)?;
-        found.push(number)?;
+        add(&mut found, number, items.len())?;
     }
     Ok(found)
 }
@@ -57,10 +58,10 @@ fn pair(json: &Tree<'_>) -> Result<(i64, i64), Flaw>
 fn pairs(alloc: Global, items: &[Tree<'_>]) -> Result<Items<(i64, i64)>, Flaw>
     ensures { Gives result (each_item pair_of (items_view items.now)) }
 {
-    let mut found = Items::from_vec(Vec::with_capacity(alloc, items.len().min(FIRST_ROOM))?);
+    let mut found = Items::new(alloc);
     for json in items {
         let pair = pair(json)?;
-        found.push(pair)?;
+        add(&mut found, pair, items.len())?;
     }
     Ok(found)
 }
@@ -82,10 +83,10 @@ pub(crate) fn pairs_at(
 fn entries(alloc: Global, items: &[Tree<'_>]) -> Result<Items<Raw>, Flaw>
     ensures { Gives result (each_item raw_of (items_view items.now)) }
 {
-    let mut found = Items::from_vec(Vec::with_capacity(alloc, items.len().min(FIRST_ROOM))?);
+    let mut found = Items::new(alloc);
     for json in items {
         let entry = raw(alloc, json)?;
-        found.push(entry)?;
+        add(&mut found, entry, items.len())?;
     }
     Ok(found)
 }
@@ -103,10 +104,10 @@ pub(crate) fn entries_at(alloc: Global, json: &Tree<'_>, name: &str) -> Result<I
 fn templates(alloc: Global, items: &[Tree<'_>]) -> Result<Items<Option<Raw>>, Flaw>
     ensures { Gives result (each_item template_of (items_view items.now)) }
 {
-    let mut found = Items::from_vec(Vec::with_capacity(alloc, items.len().min(FIRST_ROOM))?);
+    let mut found = Items::new(alloc);
     for json in items {
         let like = template(alloc, json)?;
-        found.push(like)?;
+        add(&mut found, like, items.len())?;
     }
     Ok(found)
 }

@@ -1,6 +1,6 @@
 //! What is read as a request and what is refused, where that is JSON's to say, and that each operation
-//! is read where there is memory.
-use crate::{Version, WireFault, read_ask, read_ask_in};
+//! and each length of payload is read where there is memory.
+use crate::{Ask, Asked, Scratch, Version, WireFault, read_ask, read_ask_in, read_ask_with};
 use std::test::Fail;
 
 // Whether a payload is read, and its id, or its refusal and the refusal's id.
@@ -121,6 +121,40 @@ fn each_operation_where_there_is_memory(rt: HostRuntime) -> Result<(), Fail> {
             "5 read",
             "{payload}"
         );
+    }
+    Ok(())
+}
+
+// Whether it is a reset of the space of this name.
+fn resets(read: &Result<Asked, WireFault>, name: &str) -> bool {
+    let Ok(asked) = read else {
+        return false;
+    };
+    match asked.ask() {
+        Ask::Reset { space } => space.is(name),
+        _ => false,
+    }
+}
+
+// Lengths about that of the longest payload for which a scratch space is kept, 4,096 bytes, of which
+// 34 aren't letters of the name, and a short one behind each long one.
+#[test]
+fn long_and_short_payloads_in_a_scratch_space_that_is_kept(rt: HostRuntime) -> Result<(), Fail> {
+    let alloc = rt.alloc();
+    let mut scratch = Scratch::new(alloc);
+    for count in [3, 4061, 4062, 4063, 3, 60_000, 3] {
+        let mut letters = String::new(alloc);
+        for _ in 0..count {
+            letters.push('x')?;
+        }
+        // An escape, so that the name is written into the scratch space.
+        let name = format!(in alloc; "\n{letters}")?;
+        let text = format!(in alloc; r#"{{"id":5,"op":"reset","space":"\n{letters}"}}"#)?;
+        let payload = text.as_bytes();
+        let kept = read_ask_with(alloc, Version::One, payload, &mut scratch);
+        assert!(rt; resets(&kept, &name), "{count}");
+        let alone = read_ask_in(alloc, Version::One, payload);
+        assert!(rt; resets(&alone, &name), "{count}, alone");
     }
     Ok(())
 }

@@ -9,8 +9,8 @@ loop-name-preserved c =
     let front = c.loop-name.found in
     let k = c.in-Some.name.now.now in
     let whole = each_member kind_of (members_view c.args.members.now.entries) in
-    let named : c.in_ok-text.field-0 ≡ k = some_same _ _ k c.in_ok-text.ensures refl in
-    let pushed : c.push.new.self ≡ front ++ (k, c.in_ok-kind.kind) ∷ [] = rw (← named) c.in_ok-push.ensures.ok in
+    let named : c.in_ok-name.name ≡ k = some_same _ _ k c.in_ok-name.ensures refl in
+    let added : c.add.new.parts ≡ front ++ (k, c.in_ok-kind.kind) ∷ [] = rw (← named) c.in_ok-add.ensures in
     let kept : with_front front (each_member kind_of (members_view ((c.in-Some.name.now, c.in-Some.json.now) ∷ c.next.new.self))) ≡ whole =
     rw c.in-Some.ensures.steps at c.loop-name.invariant in
-    rw pushed (member_read kind_of front k (view c.in-Some.json.now) (members_view c.next.new.self) c.in_ok-kind.kind whole c.in_ok-kind.ensures kept)
+    rw added (member_read kind_of front k (view c.in-Some.json.now) (members_view c.next.new.self) c.in_ok-kind.kind whole c.in_ok-kind.ensures kept)
