@@ -1,3 +1,4 @@
 pub mod Streams
 pub mod Readings
 pub mod Pieces
+pub mod Cutting

@@ -1,12 +1,11 @@
 -- A stream of bytes has one reading.
-use Rattle.std.proofs.Common.{◌≡◌, ℕ, ◌+◌, ◌^◌, ◌<◌, ◌≤◌, ◌⊎◌, List, [], ◌∷◌, ◌++◌, length, get_or, take, drop, zero, suc, flat_map, Bool, true, false, refl, ap, ap₂, sym, ◌∙◌, inl, inr, arith, append_assoc, append-nil, length-append, length-drop, take_at, drop_at, subst₂, ◌-◌}
+use Rattle.std.proofs.Common.{◌≡◌, ℕ, ◌+◌, ◌^◌, ◌<◌, ◌≤◌, ◌⊎◌, List, [], ◌∷◌, ◌++◌, length, get_or, take, drop, zero, suc, flat_map, Bool, true, false, refl, ap, ap₂, sym, ◌∙◌, inl, inr, arith, append_assoc, append-nil, length-append, length-drop, take_at, drop_at}
 use Rattle.std.proofs.lemmas.Bool.{cases_lt}
-use Rattle.std.proofs.lemmas.List.{take-append-drop, length-take-le, get_or-take, get_or-drop, get_or_past, drop-drop}
+use Rattle.std.proofs.lemmas.List.{take-append-drop, length-take-le, get_or-take, get_or-drop, get_or_past}
 use Rattle.std.proofs.lemmas.Nat.{be_bytes_4, from_be_bytes-to_be_bytes_4}
 use Rattle.std.specs.Int.{w32, to_be_bytes}
 use Rattle.jsp_frame.specs.Stream.{frame_of, named_length, HasNoFrame, BeginsWith, SplitsInto, Reads}
 use Rattle.jsp_frame.specs.Reading.{EndsIn, HasReading}
-use Rattle.jsp_frame.specs.Front.{HasFrame}
 use Rattle.jsp_frame.proofs.Streams.{SplitsInto-nil, SplitsInto-join, SplitsInto-frame}
 
 -- ---- at most one
@@ -77,6 +76,11 @@ Reads-unique limit stream ps qs rest last fits one two =
 
 -- ---- at least one
 
+-- a whole frame stands at the front
+pub record HasFrame (limit : ℕ) (bytes : List ℕ) : Type 0 where
+  pub within : named_length bytes ≤ limit
+  pub whole : 4 + named_length bytes ≤ length bytes
+
 pub frame_or_none : (limit : ℕ) (bytes : List ℕ) → HasFrame limit bytes ⊎ HasNoFrame limit bytes
 frame_or_none limit bytes =
     elim (cases_lt (length bytes) 4) [
@@ -122,15 +126,6 @@ HasFrame-BeginsWith limit bytes each has =
           ∙ ap (λ xs. xs ++ body) head
           ∙ take-append-drop 4 bytes);
     }
-
--- the bytes behind the length, as many as it says, and what follows them
-pub cut-BeginsWith : (limit n : ℕ) (bytes payload rest : List ℕ) → AreBytes bytes → n ≡ named_length bytes → HasFrame limit bytes
-    → payload ≡ take (4 + n - 4) (drop 4 bytes) → rest ≡ drop (4 + n) bytes → BeginsWith limit bytes payload rest
-cut-BeginsWith limit n bytes payload rest each named has payload_is rest_is =
-    let front : payload ≡ front_payload bytes = payload_is ∙ ap (λ m. take m (drop 4 bytes)) (omega (arith, named)) in
-    let behind : rest ≡ behind_front bytes =
-    rest_is ∙ ap (λ m. drop (4 + m) bytes) named ∙ sym (drop-drop (named_length bytes) 4 bytes) in
-    subst₂ (λ p r. BeginsWith limit bytes p r) (sym front) (sym behind) (HasFrame-BeginsWith limit bytes each has)
 
 -- what is behind it is bytes too, and fewer
 pub behind_front-bytes : (bytes : List ℕ) → AreBytes bytes → AreBytes (behind_front bytes)

@@ -1,4 +1,4 @@
 pub mod Stream
 pub mod Unframer
 pub mod Reading
-pub mod Front
+pub mod Codec

@@ -2,10 +2,11 @@
 ghost use Rattle.std.specs.Prelude.{◌≡◌, ◌++◌, [], IfOk, OnOk, OnErr, IsOk, IsErr};
 
 use crate::NoMemory;
-use crate::front::cut_front;
+use crate::front::{cut_front, line_codec};
 use bytes::BytesMut;
 use std::alloc::Global;
 use std::marker::Model;
+use tokio_util::codec::LengthDelimitedCodec;
 
 /// What comes next on a stream.
 #[derive(Debug, Drop)]
@@ -33,16 +34,20 @@ enum Phase {
 #[derive(Drop)]
 pub struct Unframer {
     limit: u32,
+    codec: LengthDelimitedCodec,
     buffer: BytesMut,
     phase: Phase,
 }
 
 impl Model for Unframer {
     ghost use Rattle.jsp_frame.specs.Unframer.{Incoming};
+    ghost use Rattle.jsp_frame.specs.Codec.{CutsWhileOpen};
 
     ghost Value = { Incoming };
 
     ghost view = { λ u. record { limit = u.limit; rest = u.buffer.items; phase = u.phase } };
+
+    ghost invariant = { λ u. CutsWhileOpen u.phase u.codec u.limit };
 }
 
 impl Unframer {
@@ -55,6 +60,7 @@ impl Unframer {
     {
         Unframer {
             limit,
+            codec: line_codec(limit),
             buffer: BytesMut::new(alloc),
             phase: Phase::Open,
         }
@@ -97,7 +103,7 @@ impl Unframer {
             Phase::TooLong => return Ok(Cut::TooLong),
             Phase::Open => {}
         }
-        let cut = cut_front(&mut self.buffer, self.limit);
+        let cut = cut_front(&mut self.buffer, &mut self.codec, self.limit);
         match &cut {
             Ok(Cut::TooLong) => self.phase = Phase::TooLong,
             Ok(_) => {}
@@ -111,6 +117,7 @@ impl Unframer {
     pub fn widen(&mut self, limit: u32)
         ensures { self.new ≡ with_limit self.old limit }
     {
+        self.codec.set_max_frame_length(limit as usize);
         self.limit = limit;
     }
 }
