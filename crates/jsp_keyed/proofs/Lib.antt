@@ -11,3 +11,4 @@ pub mod Beyond
 pub mod Gathering
 pub mod Ending
 pub mod Joining
+mod WorkedKeys

@@ -47,7 +47,7 @@ fn int_code(int: &i64) -> u64
     (-(int + 1)) as u64
 }
 
-pub(crate) fn mix_value(key: u64, value: &Value) -> u64
+fn mix_value(key: u64, value: &Value) -> u64
     ensures { result ≡ value_mixed key value.now }
 {
     match value {
