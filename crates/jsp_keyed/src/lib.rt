@@ -7,7 +7,8 @@
 //! A list of numbers names at least each thing that has its key, and may name others, so it never
 //! decides: each thing that is named gets the full test, and what is found first is the first of all
 //! that pass, as each contract says. What adds is whole or not at all, and so is a change that takes
-//! memory; nothing else takes any.
+//! memory. Besides these, `to_items` and `passing` take some for what they answer, and nothing else
+//! takes any.
 #![tactic(auto)]
 
 mod adding;

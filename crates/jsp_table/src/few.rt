@@ -12,7 +12,7 @@ pub(crate) fn next_of_few(numbers: &[u64], number: u64) -> Option<u64>
     numbers.get(place_above(numbers, number)).copied()
 }
 
-/// The same, first looked for at this place, which is then the place of what was found.
+/// The same, first looked for at this place, which is then the place behind what was found.
 pub(crate) fn next_of_few_from(numbers: &[u64], place: &mut usize, number: u64) -> Option<u64>
     requires { AreIncreasing numbers.now }
     ensures { result ≡ find (nat_lt number) numbers.now }
