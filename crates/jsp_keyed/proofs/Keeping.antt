@@ -1,5 +1,5 @@
 -- What is named and ended stays so where things come and go.
-use Rattle.std.proofs.Common.{◌≡◌, ℕ, ◌<◌, Bool, true, false, not, cond, eqb, List, [], ◌∷◌, ◌++◌, map, Option, Some, None, Result, Ok, Err, ok_or, refl, ap, sym, ◌∙◌, inl, inr, ◌+◌, length, take, get_or, subst}
+use Rattle.std.proofs.Common.{◌≡◌, ◌≢◌, ℕ, ◌<◌, Bool, true, false, not, cond, eqb, List, [], ◌∷◌, ◌++◌, map, Option, Some, None, Result, Ok, Err, ok_or, refl, ap, sym, ◌∙◌, inl, inr, ◌+◌, length, take, get_or, subst, arith}
 use Rattle.std.specs.Prelude.{OnOk, OnErr, IfSome}
 use Rattle.std.specs.List.{AllByRecursion}
 use Rattle.std.specs.HashMap.{HashMap}
@@ -11,7 +11,7 @@ use Rattle.jsp_lease.specs.declared.fault.LeaseFault.{LeaseFault}
 use Rattle.jsp_lease.specs.declared.fault.LeaseFault.TheVariants.{UnknownLease}
 use Rattle.jsp_lease.specs.Leases.{Leased, is_numbered, item_numbered, with_items, without as without_item}
 use Rattle.jsp_table.specs.Finding.{numbered, without, AreNumbered}
-use Rattle.jsp_table.proofs.Finding.{each, found_number}
+use Rattle.jsp_table.proofs.Finding.{both, each, found_number}
 use Rattle.jsp_keyed.specs.Kept.{IsNamed, AreNamed, Keeps, KeepsOthers, AreKeyed, item_of}
 use Rattle.jsp_keyed.proofs.Named.{All-append, still_named}
 
@@ -80,6 +80,15 @@ module _ {T : Type 0} (num : T → ℕ) (keys_of : ℕ → T → List ℕ) (end_
     pub still_keyed : (old new : HashMap ℕ (List ℕ) S) (ends same : Leased) (xs : List T) → Keeps old new → same.items ≡ ends.items → AreKeyed num keys_of end_of rank_of seed old ends xs → AreKeyed num keys_of end_of rank_of seed new same xs
     still_keyed old new ends same xs keeps is h = record {
       named = each (λ x. IsNamed old (num x) (keys_of seed x)) (λ x. IsNamed new (num x) (keys_of seed x)) xs h.named (λ x g. still_named old new (num x) (keys_of seed x) (λ k. keeps k (num x)) g);
+      ended = is ∙ h.ended;
+      positive = h.positive;
+    }
+
+    -- where those have other numbers
+    pub others_keyed : (old new : HashMap ℕ (List ℕ) S) (ends same : Leased) (xs : List T) (n : ℕ) → KeepsOthers n old new → AllByRecursion (λ x. num x < n) xs → same.items ≡ ends.items
+        → AreKeyed num keys_of end_of rank_of seed old ends xs → AreKeyed num keys_of end_of rank_of seed new same xs
+    others_keyed old new ends same xs n keeps below is h = record {
+      named = both (λ x. num x < n) (λ x. IsNamed old (num x) (keys_of seed x)) (λ x. IsNamed new (num x) (keys_of seed x)) xs below h.named (λ x lt g. let ne : num x ≢ n = omega (arith, lt) in still_named old new (num x) (keys_of seed x) (λ k. keeps k (num x) ne) g);
       ended = is ∙ h.ended;
       positive = h.positive;
     }

@@ -2,11 +2,12 @@
 ghost use Rattle.std.specs.Prelude.{◌≡◌, ◌<◌, ◌++◌, ◌∷◌, [], OnOk, OnErr};
 ghost use Rattle.std.specs.List.{AllByRecursion};
 ghost use Rattle.jsp_lease.specs.Leases.{without, Adds};
-ghost use Rattle.jsp_keyed.specs.Kept.{item_of};
+ghost use Rattle.jsp_keyed.specs.Kept.{item_of, IsNamed, KeepsOthers};
 
+use crate::naming::{forget_gone, name_wholly};
 use crate::{Keying, NoMemory};
 use jsp_lease::{Item, Leases};
-use jsp_table::{Numbering, Table};
+use jsp_table::{Hints, Numbering, Table};
 use std::alloc::Global;
 
 /// A thing's end, as an item.
@@ -20,21 +21,31 @@ pub fn item<T, K: Numbering<T> + Keying<T>>(thing: &T) -> Item
     }
 }
 
-/// Adds a thing at the end, whole or not at all.
-pub(crate) fn append<T: Drop, K: Numbering<T>>(
+/// Names a thing that is named nowhere yet under each of its keys, and adds it at the end: both, or neither
+/// where memory is refused. The others stay named.
+pub(crate) fn append<T: Drop, K: Numbering<T> + Keying<T>>(
     alloc: Global,
+    seed: u64,
+    hints: &mut Hints,
     table: &mut Table<T, K>,
     thing: T,
 ) -> Result<(), NoMemory>
     requires { AllByRecursion (λ x. K.number_of x < K.number_of thing) table.old }
     ensures ok { OnOk result (table.new ≡ table.old ++ thing ∷ []) }
     ensures err { OnErr result (table.new ≡ table.old) }
+    ensures named { OnOk result (IsNamed hints.new (K.number_of thing) (K.keys_of seed thing)) }
+    ensures others { KeepsOthers (K.number_of thing) hints.old hints.new }
 {
     // Which says that the numbers rise.
     let _ = table.places();
+    let number = K::number(&thing);
     let mut things = Vec::with_capacity(alloc, 1)?;
+    name_wholly::<T, K>(alloc, seed, hints, &thing)?;
     things.push(thing)?;
-    table.append(&mut things)?;
+    if let Err(e) = table.append(&mut things) {
+        forget_gone::<T, K>(seed, hints, things.pop(), number);
+        return Err(e);
+    }
     Ok(())
 }
 

@@ -7,7 +7,7 @@ ghost use Rattle.jsp_table.specs.Places.{living};
 ghost use Rattle.jsp_keyed.specs.Kept.{item_of};
 
 use crate::adding::{append, cancel, item, place};
-use crate::naming::{forget_gone, name};
+use crate::naming::forget_gone;
 use crate::{Keying, NoMemory};
 use jsp_lease::{Item, Leases};
 use jsp_table::{Hints, Numbering, Numbers, Table};
@@ -67,10 +67,15 @@ impl<T, K: Numbering<T> + Keying<T>> Keyed<T, K> {
         if number == 0 || self.ends.last() >= number || !self.table.is_above(number) {
             return Ok(Some(thing));
         }
-        name::<T, K>(self.alloc, self.seed, &mut self.hints, &thing)?;
         self.ends.reserve(1)?;
         let item = item::<T, K>(&thing);
-        append(self.alloc, &mut self.table, thing)?;
+        append(
+            self.alloc,
+            self.seed,
+            &mut self.hints,
+            &mut self.table,
+            thing,
+        )?;
         place(&mut self.ends, item);
         Ok(None)
     }

@@ -23,6 +23,24 @@ pub(crate) fn name<T, K: Numbering<T> + Keying<T>>(
     Ok(())
 }
 
+/// Names a thing that is named nowhere yet under each of its keys, or under none where memory is refused. The
+/// others stay named.
+pub(crate) fn name_wholly<T, K: Numbering<T> + Keying<T>>(
+    alloc: Global,
+    seed: u64,
+    hints: &mut Hints,
+    thing: &T,
+) -> Result<(), NoMemory>
+    ensures ok { OnOk result (IsNamed hints.new (K.number_of thing.now) (K.keys_of seed thing.now)) }
+    ensures others { KeepsOthers (K.number_of thing.now) hints.old hints.new }
+{
+    if let Err(e) = name::<T, K>(alloc, seed, hints, thing) {
+        forget::<T, K>(seed, hints, thing);
+        return Err(e);
+    }
+    Ok(())
+}
+
 /// Names things under each of their keys. Nothing goes from any list, on `Err` either.
 pub(crate) fn name_all<T, K: Numbering<T> + Keying<T>>(
     alloc: Global,
