@@ -11,19 +11,6 @@ use Rattle.jsp_keyed.proofs.keyed.Keyed.try_change_named.Goals as goal
 pub things-init : goal.things-init
 things-init g c = none_changed g.K.Numbering.number_of (g.P.Test.is_passed c.args.test.now) (g.C.TryChange.changed c.args.change.now) c.args.self.now c.places.ensures.positive
 
-pub things-smaller : goal.things-smaller
-things-smaller g c =
-    let num = g.K.Numbering.number_of in
-    let passed = g.P.Test.is_passed c.args.test.now in
-    let changed = g.C.TryChange.changed c.args.change.now in
-    let ns = c.args.numbers.now in
-    let last = c.things.last in
-    let x = c.in-Some.thing.now in
-    let named : AreNamed num passed ns c.things.self = subst (AreNamed num passed ns) (sym c.things.invariant) (still_named num passed changed (λ y. (c.requires.keeps y).number) last ns c.args.self.now c.requires.named) in
-    let first : Some x ≡ find (is_next num passed last) c.things.self = first_of_named num passed last ns c.things.self (Some x) c.in-Some.ensures.rising named c.in-Some.ensures.least in
-    let above = found_is_above num passed last c.things.self x (sym first) in
-    omega (arith, above, c.number-number.ensures, c.number-number.type_inv)
-
 pub things-preserved : goal.things-preserved
 things-preserved g c =
     let num = g.K.Numbering.number_of in
@@ -42,6 +29,19 @@ things-preserved g c =
     let now : c.try_change.new.self ≡ map (λ w. cond (eqb (num w) c.number-number.result) (changed w) w) (map (up_to num passed changed last) old) = c.in_default-try_change.ensures.ok ∙ ap (map (λ w. cond (eqb (num w) c.number-number.result) (changed w) w)) is in
     subst (λ (n : ℕ). c.try_change.new.self ≡ map (up_to num passed changed n) old) (sym c.number-number.ensures)
     (now ∙ (ap (λ (n : ℕ). map (λ w. cond (eqb (num w) n) (changed w) w) (map (up_to num passed changed last) old)) c.number-number.ensures ∙ next))
+
+pub things-smaller : goal.things-smaller
+things-smaller g c =
+    let num = g.K.Numbering.number_of in
+    let passed = g.P.Test.is_passed c.args.test.now in
+    let changed = g.C.TryChange.changed c.args.change.now in
+    let ns = c.args.numbers.now in
+    let last = c.things.last in
+    let x = c.in-Some.thing.now in
+    let named : AreNamed num passed ns c.things.self = subst (AreNamed num passed ns) (sym c.things.invariant) (still_named num passed changed (λ y. (c.requires.keeps y).number) last ns c.args.self.now c.requires.named) in
+    let first : Some x ≡ find (is_next num passed last) c.things.self = first_of_named num passed last ns c.things.self (Some x) c.in-Some.ensures.rising named c.in-Some.ensures.least in
+    let above = found_is_above num passed last c.things.self x (sym first) in
+    omega (arith, above, c.number-number.ensures, c.number-number.type_inv)
 
 pub returns-in-Err-clause-err : goal.returns-in-Err-clause-err
 returns-in-Err-clause-err g c =
