@@ -1,6 +1,6 @@
 -- What who searches may have, who may hold rows itself.
-use Rattle.std.proofs.Common.{◌≡◌, ℕ, Bool, true, false, cond, ◌&&◌, ◌||◌, eqb, nat_lt, List, [], ◌∷◌, length, Option, Some, None, refl, ap, sym, ◌∙◌, subst, arith}
-use Rattle.std.specs.Prelude.{find, is_none, nat_eq}
+use Rattle.std.proofs.Common.{◌≡◌, ℕ, Bool, true, false, cond, ◌&&◌, ◌||◌, eqb, List, [], ◌∷◌, length, Option, Some, None, refl, ap, sym, ◌∙◌, subst, arith}
+use Rattle.std.specs.Prelude.{is_none, nat_eq}
 use Rattle.std.specs.Option.{option_map_or}
 use Rattle.std.specs.List.{AllByRecursion, list_all}
 use Rattle.std.specs.HashMap.{HashMap, get}
@@ -15,10 +15,7 @@ use Rattle.jsp_model.specs.Lookup.{is_caller}
 use Rattle.jsp_sight.specs.Rows.{wanted, offered, shows}
 use Rattle.jsp_table.specs.Numbers.{contains, names}
 use Rattle.jsp_table.proofs.Finding.{each, everywhere}
-use Rattle.jsp_table.proofs.Rising.{or_cases}
-use Rattle.jsp_keyed.proofs.Least.{found_least, least_of_both, least_among, least_first}
-use Rattle.jsp_index.specs.Finding.{number, is_next, is_asked, IsLeast, lesser}
-use Rattle.jsp_index.specs.Numbered.{AreNumbered}
+use Rattle.jsp_index.specs.Finding.{is_asked}
 use Rattle.jsp_index.specs.Holding.{IsHeld, AreHeld}
 use Rattle.jsp_index.specs.declared.starts.Unseen.{Unseen}
 use Rattle.jsp_index.specs.declared.starts.Unseen.TheVariants.{Nothing, Taken, Hidden, Held}
@@ -92,43 +89,19 @@ module _ {S : Type 0} (holders : HashMap ℕ (List ℕ) S) (x : ℕ) (own : List
 pub had_or_some : {S : Type 0} (holders : HashMap ℕ (List ℕ) S) (x : ℕ) (own : List ℕ) (takes : Bool) (rows : List Row) → get nat_eq holders x ≡ Some own → AreHeld holders rows → AreOpenOr (cond takes Held Hidden) own (may_have takes (Some x)) rows
 had_or_some holders x own takes rows some held = had_or_own holders x own (λ n h. sym (ap (λ o. option_map_or (λ ns. contains ns n) o false) some) ∙ h) takes rows held
 
+or_nothing : (b : Bool) → (b || false) ≡ true → b ≡ true
+or_nothing true h = refl
+or_nothing false h = absurd (cc)
+
+nothing_or : (b : Bool) → b ≡ true → (b || false) ≡ true
+nothing_or true h = refl
+nothing_or false h = absurd (cc)
+
 -- a transaction that holds nothing has no part in what others hold
 pub had_by_stranger : {S : Type 0} (holders : HashMap ℕ (List ℕ) S) (x : ℕ) → get nat_eq holders x ≡ None → (takes : Bool) (rows : List Row) → AreHeld holders rows → AreOpen (cond takes Held Hidden) (may_have takes (Some x)) rows
 had_by_stranger holders x none takes rows held =
     each (λ r. may_have takes (Some x) r ≡ true → (is_open (cond takes Held Hidden) r || false) ≡ true) (λ r. may_have takes (Some x) r ≡ true → is_open (cond takes Held Hidden) r ≡ true) rows
-    (had_or_own holders x [] (λ n h. absurd (cc (h, ap (λ o. option_map_or (λ ns. contains ns n) o false) none))) takes rows held) (λ r g h. or_nothing (is_open (cond takes Held Hidden) r) (g h)) where
-      or_nothing : (b : Bool) → (b || false) ≡ true → b ≡ true
-      or_nothing true h = refl
-      or_nothing false h = absurd (cc)
-
--- the first that is open, or one of these, is the first of all
-pub open_or_own : (u : Unseen) (own : List ℕ) (passed : Row → Bool) (after : ℕ) (rows : List Row) (other : Option Row) → AreNumbered rows → AreOpenOr u own passed rows
-    → IsLeast (is_next passed after) (λ r. contains own r.number) rows other
-    → lesser (find (is_next (λ r. is_open u r && passed r) after) rows) other ≡ find (is_next passed after) rows
-open_or_own u own passed after rows other up opens g =
-    least_first number (is_next passed after) (is_next passed after) rows (lesser (find (is_next (λ r. is_open u r && passed r) after) rows) other) up.rising (λ r h. h)
-    (least_among number (is_next passed after) (λ r. passed r ≡ true → kinds r ≡ true) kinds (is_next passed after) rows (lesser (find (is_next (λ r. is_open u r && passed r) after) rows) other) opens narrow
-    (least_of_both number (is_next passed after) (is_open u) (λ r. contains own r.number) kinds rows (find (is_next (λ r. is_open u r && passed r) after) rows) other (λ r h. or_cases (is_open u r) (contains own r.number) h)
-    (found_least number (is_next passed after) (is_next (λ r. is_open u r && passed r) after) (is_open u) rows up.rising sound full) g)) where
-      kinds : Row → Bool
-      kinds r = is_open u r || contains own r.number
-
-      narrow : (r : Row) → (passed r ≡ true → kinds r ≡ true) → is_next passed after r ≡ true → kinds r ≡ true
-      narrow r p n = p (and_both (nat_lt after r.number) (passed r) n).1
-
-      sound : (r : Row) → is_next (λ r. is_open u r && passed r) after r ≡ true → is_next passed after r ≡ true
-      sound r n =
-          let two = and_both (nat_lt after r.number) (is_open u r && passed r) n in
-          and_true (nat_lt after r.number) (passed r) two.0 (and_both (is_open u r) (passed r) two.1).1
-
-      full : (r : Row) → is_next passed after r ≡ true → is_open u r ≡ true → is_next (λ r. is_open u r && passed r) after r ≡ true
-      full r n o =
-          let two = and_both (nat_lt after r.number) (passed r) n in
-          and_true (nat_lt after r.number) (is_open u r && passed r) two.0 (and_true (is_open u r) (passed r) o two.1)
-
--- what is open and passes is open
-pub open_first : (u : Unseen) (passed : Row → Bool) (rows : List Row) → AreOpen u (λ r. is_open u r && passed r) rows
-open_first u passed rows = everywhere (λ r. (is_open u r && passed r) ≡ true → is_open u r ≡ true) rows (λ r h. (and_both (is_open u r) (passed r) h).0)
+    (had_or_own holders x [] (λ n h. absurd (cc (h, ap (λ o. option_map_or (λ ns. contains ns n) o false) none))) takes rows held) (λ r g h. or_nothing (is_open (cond takes Held Hidden) r) (g h))
 
 -- what passes may be had, in a list
 pub all_had : (u : Unseen) (takes : Bool) (x : Option ℕ) (passed : Row → Bool) (rows : List Row) → ((r : Row) → passed r ≡ true → may_have takes x r ≡ true) → AreOpen u (may_have takes x) rows → AreOpen u passed rows
@@ -136,6 +109,13 @@ all_had u takes x passed rows had h = each (λ r. may_have takes x r ≡ true �
 
 pub all_had_or : (u : Unseen) (own : List ℕ) (takes : Bool) (x : Option ℕ) (passed : Row → Bool) (rows : List Row) → ((r : Row) → passed r ≡ true → may_have takes x r ≡ true) → AreOpenOr u own (may_have takes x) rows → AreOpenOr u own passed rows
 all_had_or u own takes x passed rows had h = each (λ r. may_have takes x r ≡ true → (is_open u r || contains own r.number) ≡ true) (λ r. passed r ≡ true → (is_open u r || contains own r.number) ≡ true) rows h (λ r g p. g (had r p))
+
+-- where none is its own, what passes is open
+pub open_alone : (u : Unseen) (passed : Row → Bool) (rows : List Row) → AreOpenOr u [] passed rows → AreOpen u passed rows
+open_alone u passed rows h = each (λ r. passed r ≡ true → (is_open u r || false) ≡ true) (λ r. passed r ≡ true → is_open u r ≡ true) rows h (λ r g p. or_nothing (is_open u r) (g p))
+
+pub open_or_none : (u : Unseen) (passed : Row → Bool) (rows : List Row) → AreOpen u passed rows → AreOpenOr u [] passed rows
+open_or_none u passed rows h = each (λ r. passed r ≡ true → is_open u r ≡ true) (λ r. passed r ≡ true → (is_open u r || false) ≡ true) rows h (λ r g p. nothing_or (is_open u r) (g p))
 
 -- ---- what is offered or shown may be had
 

@@ -9,3 +9,4 @@ pub mod Spaces
 pub mod Beside
 pub mod Heads
 pub mod Having
+pub mod OwnRows

@@ -8,3 +8,4 @@ pub mod Holding
 pub mod Changing
 pub mod Counted
 pub mod Beside
+pub mod Own

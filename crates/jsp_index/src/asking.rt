@@ -2,6 +2,7 @@
 ghost use Rattle.std.specs.Prelude.{◌≡◌, ◌==◌, ◌&&◌, ◌||◌, not};
 ghost use Rattle.jsp_model.specs.Lookup.{contains as has, is_caller as calls};
 ghost use Rattle.jsp_sight.specs.Rows.{offered, held, shows};
+ghost use Rattle.jsp_index.specs.Own.{is_within as is_within_of};
 
 use crate::starts::Unseen;
 use jsp_model::{Blocked, MatchSet, Row};
@@ -96,20 +97,50 @@ impl Test<Row> for Free {
     }
 }
 
-/// Whether a search may have the row, by whom it is held, and it passes a test.
+/// Whether a search may have the row, by whom it is held, and it isn't above the last number and passes a
+/// test.
 #[derive(Drop)]
 pub(crate) struct Open<'a, P: Test<Row>> {
     pub(crate) unseen: Unseen,
+    pub(crate) last: Option<u64>,
     pub(crate) test: &'a P,
 }
 
 impl<'a, P: Test<Row>> Test<Row> for Open<'a, P> {
     ghost use Rattle.jsp_index.specs.Passed.{is_open};
+    ghost use Rattle.jsp_index.specs.Own.{is_within};
 
-    ghost is_passed = { λ s r. is_open s.unseen r && P.is_passed s.test.now r };
+    ghost is_passed = { λ s r. is_within s.last r.number && is_open s.unseen r && P.is_passed s.test.now r };
 
     fn passes(&self, row: &Row) -> bool {
-        self.unseen.leaves(row) && self.test.passes(row)
+        is_within(self.last, row.number) && self.unseen.leaves(row) && self.test.passes(row)
+    }
+}
+
+/// Whether a number isn't above the last one, if there is one.
+fn is_within(last: Option<u64>, number: u64) -> bool
+    ensures { result ≡ is_within_of last number }
+{
+    match last {
+        None => true,
+        Some(last) => number <= last,
+    }
+}
+
+/// Whether the row stands above a number, where a search ends, or passes a test.
+#[derive(Drop)]
+pub(crate) struct OrAbove<'a, P: Test<Row>> {
+    pub(crate) last: u64,
+    pub(crate) test: &'a P,
+}
+
+impl<'a, P: Test<Row>> Test<Row> for OrAbove<'a, P> {
+    ghost use Rattle.std.specs.Prelude.{nat_lt};
+
+    ghost is_passed = { λ s r. nat_lt s.last r.number || P.is_passed s.test.now r };
+
+    fn passes(&self, row: &Row) -> bool {
+        self.last < row.number || self.test.passes(row)
     }
 }
 

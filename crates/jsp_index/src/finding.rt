@@ -100,6 +100,7 @@ impl HintedRows {
         let behind = Behind {
             number: 0,
             unseen: Unseen::Nothing,
+            last: None,
         };
         self.rows
             .first_behind(classes, blocked.space, templates, behind, &test)

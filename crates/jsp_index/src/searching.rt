@@ -1,14 +1,16 @@
 //! The first row that passes a test, among the lists of hints. Nothing here takes memory.
-ghost use Rattle.std.specs.Prelude.{◌≡◌, ◌&&◌, true, bytes_eq, find, option_copied, Bool};
+ghost use Rattle.std.specs.Prelude.{◌≡◌, ◌&&◌, true, bytes_eq, find, option_copied, Bool, Some};
 ghost use Rattle.std.specs.List.{AllByRecursion};
 ghost use Rattle.jsp_model.specs.declared.state.Row.{Row as OfRow};
 ghost use Rattle.jsp_types.specs.declared.entry.Template.TheVariants.{Like};
-ghost use Rattle.jsp_index.specs.Finding.{is_next, is_asked, is_like, IsLeast};
+ghost use Rattle.jsp_table.specs.Finding.{AreNamed};
+ghost use Rattle.jsp_index.specs.Finding.{number as number_of, is_next, is_asked, is_like, IsLeast};
 ghost use Rattle.jsp_index.specs.Numbered.{AreNumbered};
-ghost use Rattle.jsp_index.specs.Passed.{AreOpen, AreOpenOr, AreListed};
+ghost use Rattle.jsp_index.specs.Passed.{AreOpen, AreListed};
+ghost use Rattle.jsp_index.specs.Own.{AreWithin};
 
-use crate::asking::{InSpace, Open};
-use crate::by_number::ByNumber;
+use crate::asking::{InSpace, OrAbove};
+use crate::by_number::{ByNumber, Rows};
 use crate::choosing::rarest_field;
 use crate::keyed::{KeyedRows, Listed};
 use crate::seeking::{OfClass, OfField};
@@ -19,21 +21,46 @@ use jsp_table::{Numbers, Test};
 use jsp_types::{Classes, Entry, Template};
 
 /// Behind which rows a search begins: those up to a number, and those at the head of a list that it
-/// can't have.
+/// can't have. And the last number that it looks at, if there is one.
 #[derive(Clone, Copy)]
 pub(crate) struct Behind {
     pub(crate) number: u64,
     pub(crate) unseen: Unseen,
+    pub(crate) last: Option<u64>,
+}
+
+/// The first row above a number that is named and passes the test, which none above the last number
+/// passes. Of those only the first is looked up, and none is tested.
+fn first_up_to<'a, P: Test<Row>>(
+    rows: &'a Rows,
+    numbers: &Numbers,
+    after: u64,
+    last: u64,
+    test: &P,
+) -> Option<&'a Row>
+    requires { AreWithin (Some last) (P.is_passed test.now) rows.now }
+    ensures { (kind : OfRow → Bool) → AreNamed number_of kind numbers.now rows.now → IsLeast (is_next (P.is_passed test.now) after) kind rows.now (option_copied result) }
+{
+    let Some(row) = rows.first_named(numbers, after, &OrAbove { last, test }) else {
+        return None;
+    };
+    if last < row.number {
+        return None;
+    }
+    Some(row)
 }
 
 impl KeyedRows {
-    /// The first row of a list above a number that passes the test, where only rows pass that the list's
-    /// start leaves.
-    fn first_listed<P: Test<Row>>(&self, listed: &Listed, after: u64, test: &P) -> Option<&Row>
-        ensures { (kind had : OfRow → Bool) → AreListed kind had listed.now.numbers.now listed.now.start self.now → AllByRecursion (λ r. P.is_passed test.now r ≡ true → had r ≡ true) self.now → IsLeast (is_next (P.is_passed test.now) after) kind self.now (option_copied result) }
+    /// The first row of a list that passes the test, where only rows pass that the list's start leaves.
+    fn first_listed<P: Test<Row>>(&self, listed: &Listed, behind: Behind, test: &P) -> Option<&Row>
+        requires { AreWithin behind.last (P.is_passed test.now) self.now }
+        ensures { (kind had : OfRow → Bool) → AreListed kind had listed.now.numbers.now listed.now.start self.now → AllByRecursion (λ r. P.is_passed test.now r ≡ true → had r ≡ true) self.now → IsLeast (is_next (P.is_passed test.now) behind.number) kind self.now (option_copied result) }
     {
-        let after = after.max(listed.start);
-        self.rows.first_named(listed.numbers, after, test)
+        let after = behind.number.max(listed.start);
+        match behind.last {
+            None => self.rows.first_named(listed.numbers, after, test),
+            Some(last) => first_up_to(&self.rows, listed.numbers, after, last, test),
+        }
     }
 
     /// The first row of the space and of the class that passes the test and is like the template. The
@@ -48,7 +75,8 @@ impl KeyedRows {
         behind: Behind,
         test: &P,
     ) -> Option<&Row>
-        requires { AreOpen behind.unseen (P.is_passed test.now) self.now }
+        requires had { AreOpen behind.unseen (P.is_passed test.now) self.now }
+        requires within { AreWithin behind.last (P.is_passed test.now) self.now }
         ensures { IsLeast (is_next (P.is_passed test.now) behind.number) (λ r. is_like classes.now space (Like like.now) r && bytes_eq class.now r.entry.class) self.now (option_copied result) }
     {
         let listed = self.listed(&OfClass { space, class }, behind.unseen);
@@ -56,7 +84,7 @@ impl KeyedRows {
             return None;
         }
         if classes.is_sub(class, like.class.as_str()) {
-            self.first_listed(&listed, behind.number, test)
+            self.first_listed(&listed, behind, test)
         } else {
             None
         }
@@ -72,7 +100,8 @@ impl KeyedRows {
         behind: Behind,
         test: &P,
     ) -> Option<&Row>
-        requires { AreOpen behind.unseen (P.is_passed test.now) self.now }
+        requires had { AreOpen behind.unseen (P.is_passed test.now) self.now }
+        requires within { AreWithin behind.last (P.is_passed test.now) self.now }
         ensures { IsLeast (is_next (P.is_passed test.now) behind.number) (is_like classes.now space (Like like.now)) self.now (option_copied result) }
     {
         let mut first = None;
@@ -95,19 +124,20 @@ impl KeyedRows {
         behind: Behind,
         test: &P,
     ) -> Option<&Row>
-        requires { AreOpen behind.unseen (P.is_passed test.now) self.now }
+        requires had { AreOpen behind.unseen (P.is_passed test.now) self.now }
+        requires within { AreWithin behind.last (P.is_passed test.now) self.now }
         ensures { IsLeast (is_next (P.is_passed test.now) behind.number) (is_like classes.now space template.now) self.now (option_copied result) }
     {
         match template {
             Template::Any => {
                 let listed = self.listed(&InSpace { space }, behind.unseen);
-                self.first_listed(&listed, behind.number, test)
+                self.first_listed(&listed, behind, test)
             }
             Template::Like(like) => match rarest_field(&self.rows, like, space) {
                 None => self.first_of_classes(classes, space, like, behind, test),
                 Some(field) => {
                     let listed = self.listed(&OfField { space, field }, behind.unseen);
-                    self.first_listed(&listed, behind.number, test)
+                    self.first_listed(&listed, behind, test)
                 }
             },
         }
@@ -125,6 +155,7 @@ impl KeyedRows {
     ) -> Option<&Row>
         requires asked { (r : OfRow) → P.is_passed test.now r ≡ true → is_asked classes.now space templates.now r ≡ true }
         requires had { AreOpen behind.unseen (P.is_passed test.now) self.now }
+        requires within { AreWithin behind.last (P.is_passed test.now) self.now }
         ensures found { option_copied result ≡ find (is_next (P.is_passed test.now) behind.number) self.now }
         ensures numbered { AreNumbered self.now }
     {
@@ -138,27 +169,5 @@ impl KeyedRows {
             );
         }
         first
-    }
-
-    /// The first row above a number that passes the test, which only rows of the space pass that are like
-    /// one of the templates: one of these, or one that is open.
-    pub(crate) fn first_open_or<P: Test<Row>>(
-        &self,
-        classes: &Classes,
-        space: u64,
-        templates: &[Template],
-        own: &Numbers,
-        behind: Behind,
-        test: &P,
-    ) -> Option<&Row>
-        requires asked { (r : OfRow) → P.is_passed test.now r ≡ true → is_asked classes.now space templates.now r ≡ true }
-        requires had { AreOpenOr behind.unseen own.now (P.is_passed test.now) self.now }
-        ensures found { option_copied result ≡ find (is_next (P.is_passed test.now) behind.number) self.now }
-        ensures numbered { AreNumbered self.now }
-    {
-        let unseen = behind.unseen;
-        let open = self.first_behind(classes, space, templates, behind, &Open { unseen, test });
-        let other = self.rows.first_named(own, behind.number, test);
-        lesser::<Row, ByNumber>(open, other)
     }
 }

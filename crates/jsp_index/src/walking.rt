@@ -39,9 +39,12 @@ pub(crate) fn numbers_found<P: Test<Row>>(
 {
     let _ = rows.rows.places();
     let mut numbers = Items::new(alloc);
+    let scope = rows.scope(sought.transaction, sought.takes);
+    let mut own = rows.first_own(sought, &scope, from, test);
     let mut after = from;
     'rows: for _count in 0..most {
-        let Some(row) = rows.first_sought(sought, after, test) else {
+        own = rows.next_own(sought, &scope, own, after, test);
+        let Some(row) = rows.first_beside(sought, &scope, own, after, test) else {
             return Ok(numbers);
         };
         numbers.push(row.number)?;
@@ -66,9 +69,12 @@ pub(crate) fn entries_found<P: Test<Row>>(
 {
     let _ = rows.rows.places();
     let mut entries = Items::new(alloc);
+    let scope = rows.scope(sought.transaction, sought.takes);
+    let mut own = rows.first_own(sought, &scope, from, test);
     let mut after = from;
     'rows: for _count in 0..most {
-        let Some(row) = rows.first_sought(sought, after, test) else {
+        own = rows.next_own(sought, &scope, own, after, test);
+        let Some(row) = rows.first_beside(sought, &scope, own, after, test) else {
             return Ok(entries);
         };
         add_entry(&mut entries, row)?;
@@ -108,9 +114,12 @@ pub(crate) fn walk<P: Test<Row>>(
 {
     let _ = rows.rows.places();
     let mut last = None;
+    let scope = rows.scope(sought.transaction, sought.takes);
+    let mut own = rows.first_own(sought, &scope, from, test);
     let mut after = from;
     'rows: for count in 0..most {
-        let Some(row) = rows.first_sought(sought, after, test) else {
+        own = rows.next_own(sought, &scope, own, after, test);
+        let Some(row) = rows.first_beside(sought, &scope, own, after, test) else {
             return Walked { count, last };
         };
         last = Some(row.number);

@@ -4,6 +4,7 @@ use Rattle.jsp_sight.specs.Rows.{held}
 use Rattle.jsp_index.specs.Finding.{number, is_next}
 use Rattle.jsp_index.specs.Numbered.{AreNumbered}
 use Rattle.jsp_index.proofs.Having.{all_open}
+use Rattle.jsp_index.proofs.OwnRows.{all_within}
 use Rattle.jsp_index.proofs.Single.{any_found}
 use Rattle.jsp_keyed.proofs.Walking.{start_find}
 use Rattle.jsp_index.proofs.hinted.HintedRows.has_conflict.Goals as goal
@@ -18,3 +19,6 @@ returns c =
 
 pub first_behind-requires-clause-had : goal.first_behind-requires-clause-had
 first_behind-requires-clause-had c = all_open (held c.args.classes.now c.args.blocked.now) c.self.inside.rows
+
+pub first_behind-requires-clause-within : goal.first_behind-requires-clause-within
+first_behind-requires-clause-within c = all_within (held c.args.classes.now c.args.blocked.now) c.self.inside.rows

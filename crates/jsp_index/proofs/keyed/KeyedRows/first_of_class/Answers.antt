@@ -16,7 +16,7 @@ returns-then-is_empty g c =
 pub returns-then-is_sub : goal.returns-then-is_sub
 returns-then-is_sub g c =
     let kind = is_like_and c.args.classes.now c.args.space c.args.like.now c.args.class.now in
-    c.first_listed.ensures kind (is_open c.args.behind.unseen) (c.listed-listed.ensures kind (class_kept c.args.classes.now c.args.space c.args.like.now c.args.class.now)) c.requires
+    c.first_listed.ensures kind (is_open c.args.behind.unseen) (c.listed-listed.ensures kind (class_kept c.args.classes.now c.args.space c.args.like.now c.args.class.now)) c.requires.had
 
 pub returns-else-is_sub : goal.returns-else-is_sub
 returns-else-is_sub g c =
