@@ -16,8 +16,9 @@ HOUR = 3_600_000
 CLASS = '{"op":"declare","class":"Job","fields":{"k":"int","who":"text"}}'
 
 
-def job(value):
-    return f'{{"class":"Job","fields":{{"k":{value}}}}}'
+def job(value, who=None):
+    named = f',"who":"{who}"' if who else ""
+    return f'{{"class":"Job","fields":{{"k":{value}{named}}}}}'
 
 
 class Script:
@@ -48,14 +49,12 @@ class Script:
         return self.number
 
     def write(self, value, space="a", lease=HOUR, txn=None, who=None):
-        fields = f'"k":{value}' + (f',"who":"{who}"' if who else "")
         under = f',"txn":{txn}' if txn else ""
-        entry = f'{{"class":"Job","fields":{{{fields}}}}}'
-        return self.grant(f'{{"op":"write","space":"{space}","entry":{entry},"lease":{lease}{under}}}')
+        return self.grant(f'{{"op":"write","space":"{space}","entry":{job(value, who)},"lease":{lease}{under}}}')
 
-    def find(self, operation, value, space="a", timeout=0, txn=None, session=1):
+    def find(self, operation, value, space="a", timeout=0, txn=None, session=1, who=None):
         under = f',"txn":{txn}' if txn else ""
-        template = "null" if value is None else job(value)
+        template = "null" if value is None else job(value, who)
         self.send(
             f'{{"op":"{operation}","space":"{space}","template":{template},"timeout":{timeout}{under}}}', session
         )
@@ -113,7 +112,7 @@ def measure(program, rounds, before, after, count, *flags):
 
 
 STANDING = (100, 1_000, 10_000, 60_000)
-MANY, COMMITS, TRANSFERS = 20_000, 2_000, 5_000
+MANY, COMMITS, TRANSFERS, HOLDERS = 20_000, 2_000, 5_000, 500
 
 
 def searches():
@@ -274,20 +273,86 @@ def held_beside(operation):
     return script_of
 
 
-def opened(count):
-    script = standing(count)
-    script.send('{"op":"hello","version":2}')
-    for _ in range(8):
-        script.grant(f'{{"op":"contents","space":"a","template":{{"class":"Job","fields":{{}}}},"lease":{HOUR}}}')
+def read_by_itself(count):
+    """A transaction has read the oldest entry. Beside it stand so many that have its one value, and as many that have
+    its other."""
+    script = Script()
+    script.write(1, who=1)
+    txn = script.begin()
+    script.find("read", 1, who=1, txn=txn)
+    for k, who in (1, 2), (2, 1):
+        for _ in range(count):
+            script.write(k, who=who)
+    return script, txn
+
+
+def before_it_reads(count):
+    return read_by_itself(count)[0]
+
+
+def it_reads_again(count):
+    script, txn = read_by_itself(count)
+    for _ in range(TRANSFERS):
+        script.find("read", 1, who=1, txn=txn)
     return script
 
 
-def pages(count):
-    script = opened(count)
+def open_sets(script, txn=None):
+    """The script with eight match sets."""
+    under = f',"txn":{txn}' if txn else ""
+    script.send('{"op":"hello","version":2}')
+    for _ in range(8):
+        script.grant(f'{{"op":"contents","space":"a","template":{{"class":"Job","fields":{{}}}},"lease":{HOUR}{under}}}')
+    return script
+
+
+def turn_pages(script):
     for _ in range(60):
         for number in range(8):
             script.send(f'{{"op":"next","set":{script.number - number},"most":16}}')
     return script
+
+
+def opened(count):
+    return open_sets(standing(count))
+
+
+def pages(count):
+    return turn_pages(opened(count))
+
+
+def hold_elsewhere(script):
+    """A transaction that has read 64 entries of another space."""
+    txn = script.begin()
+    for value in range(64):
+        script.find("read", value, space="b", txn=txn)
+    return txn
+
+
+def opened_by_holder(count):
+    script = standing(count)
+    script.standing(64, "b")
+    return open_sets(script, hold_elsewhere(script))
+
+
+def pages_of_holder(count):
+    return turn_pages(opened_by_holder(count))
+
+
+def holders(most):
+    """Transactions that hold 64 entries of another space take so many and are aborted."""
+    def script_of(count):
+        script = standing(count)
+        script.standing(64, "b")
+        script.send('{"op":"hello","version":2}')
+        for _ in range(HOLDERS):
+            txn = hold_elsewhere(script)
+            if most:
+                script.send(f'{{"op":"take_many","space":"a","templates":[null],"most":{most},"timeout":0,"txn":{txn}}}')
+            script.send(f'{{"op":"abort","txn":{txn}}}')
+        return script
+
+    return script_of
 
 
 def ending(count):
@@ -326,7 +391,16 @@ def rows():
         yield name, (0, 1_000, 10_000, 60_000), holding(operation), takes_beside(operation), TRANSFERS
         name = f"a transaction that writes, takes and is aborted, beside entries that another {done}"
         yield name, (0, 1_000, 10_000, 60_000), holding(operation), held_beside(operation), TRANSFERS
+    yield "a read of what the transaction has read, beside entries that have one of its two values", (
+        1_000, 10_000, 30_000
+    ), before_it_reads, it_reads_again, TRANSFERS
     yield "a page of sixteen", (1_000, 10_000, 60_000), opened, pages, 480
+    yield "a page of sixteen, under a transaction that holds 64 entries of another space", (
+        1_000, 10_000, 60_000
+    ), opened_by_holder, pages_of_holder, 480
+    yield "sixteen taken at once and an abort, under a transaction that holds 64 entries of another space", (
+        1_000, 10_000, 60_000
+    ), holders(0), holders(16), HOLDERS
     yield "a lease's end at one reading", (15_000, 30_000, 60_000), standing, ending, None
     yield "a reading of the clock", STANDING, standing, readings, MANY
 
