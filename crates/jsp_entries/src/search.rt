@@ -125,7 +125,8 @@ fn would_wait(
     Ok(has_conflict(state, &blocked))
 }
 
-/// The request as it waits, if it waits. One that doesn't takes no memory.
+/// The request as it waits, if it waits, made once. One that is given rows, or doesn't want to wait,
+/// takes no memory.
 fn to_wait(
     alloc: Global,
     state: &Core,
@@ -140,10 +141,13 @@ fn to_wait(
     requires given { is_choice state.now (waiting_as state.now session id (rows_of asked.now)) rows.now ≡ true }
     ensures { IfOk result (λ o. o ≡ if_blocked state.now session id (rows_of asked.now)) }
 {
-    if !would_wait(alloc, state, session, id, rows, asked)? {
+    if !rows.is_empty() || named(asked.timeout) == 0 {
         return Ok(None);
     }
     let blocked = as_blocked(alloc, state, session, id, asked)?;
+    if is_if(asked.form) && !has_conflict(state, &blocked) {
+        return Ok(None);
+    }
     Ok(Some(blocked))
 }
 
