@@ -21,7 +21,8 @@ const NO_ROOM: [i32; 4] = [12, 23, 24, 105];
 /// The error of Linux that says that a connection was broken before it was accepted: `EPROTO`.
 const BROKEN: i32 = 71;
 
-/// How often a read or a write that was interrupted is made again.
+/// How often a read or a write that was interrupted is made again. Nothing interrupts one so often; the bound is there
+/// so that each of the two loops below ends by itself: the call behind it is the last, and its answer is the answer.
 const INTERRUPTIONS: u32 = 1000;
 
 /// The next connections of a listener, as many as its service is of.
@@ -134,6 +135,7 @@ pub(crate) struct Incoming(Arc<TcpStream>);
 impl Read for Incoming {
     fn read(&mut self, bytes: &mut [u8]) -> io::Result<usize> {
         let mut stream = &*self.0;
+        // Ends at the first call that wasn't interrupted, and after a thousand that were.
         for _ in 0..INTERRUPTIONS {
             let read = stream.read(bytes);
             if !is_interrupted(&read) {
@@ -166,6 +168,7 @@ fn write_to(stream: &TcpStream, bytes: &[u8]) -> io::Result<usize>
     ensures { IfOk result (λ n. n ≤ length bytes.now) }
 {
     let mut stream = stream;
+    // Ends at the first call that wasn't interrupted, and after a thousand that were.
     for _ in 0..INTERRUPTIONS {
         let written = stream.write(bytes);
         if !is_interrupted(&written) {
