@@ -294,22 +294,26 @@ public class JavaClient {
         }
     }
 
-    /** One worker's waits end, again and again, and the other's transactions: then jobs come, and all are done. */
+    /** One worker's waits end, again and again, and the other's transactions: then tasks come, and all are done. */
     private static void aPoolOutlivesATimeWithoutWork(String address) throws Exception {
         long brief = 200;
         ExecutorService threads = Executors.newFixedThreadPool(2);
         try (Jsp jsp = Jsp.connect(address)) {
             Pool.declare(jsp);
-            check(Pool.workOnce(jsp, "idle", 10, LONG), "no job, and no wish to go on");
+            check(Pool.workOnce(jsp, "idle", 10, LONG), "no task, and no wish to go on");
             fails(Jsp.TransactionLost.class, () -> Pool.workOnce(jsp, "idle", LONG, brief));
             Future<Void> waitsBriefly = threads.submit(() -> Pool.work(address, "waits briefly", brief, LONG));
             Future<Void> lastsBriefly = threads.submit(() -> Pool.work(address, "lasts briefly", LONG, brief));
             Thread.sleep(4 * brief);
-            jsp.space("a").write(jobs(40), null, LONG);
+            List<Jsp.Entry> tasks = new ArrayList<>();
+            for (int k = 1; k <= 40; k++) {
+                tasks.add(Jsp.entry("Task").with("k", k));
+            }
+            jsp.space("a").write(tasks, null, LONG);
             for (long k = 1; k <= 40; k++) {
                 isSame(jsp.space("b").take(Jsp.entry("Result").with("k", k), null, LONG).number("square"), k * k);
             }
-            jsp.space("a").write(List.of(JOB, JOB), null, LONG);
+            jsp.space("a").write(List.of(Jsp.entry("Task"), Jsp.entry("Task")), null, LONG);
             waitsBriefly.get();
             lastsBriefly.get();
             isSame(jsp.space("a").read(null, null, 0), null);

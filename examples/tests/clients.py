@@ -169,10 +169,10 @@ def a_lost_transaction_gives_back(address):
 
 
 def a_pool_outlives_a_time_without_work(address):
-    """One worker's waits end, again and again, and the other's transactions: then jobs come, and all are done."""
+    """One worker's waits end, again and again, and the other's transactions: then tasks come, and all are done."""
     often, shortly = 60_000, 200
     with connect(address) as jsp:
-        jsp.declare("Job", k="int")
+        jsp.declare("Task", k="int")
         jsp.declare("Result", k="int", square="int", worker="text")
         assert pool.work_once(jsp, "idle", wait=10, lease=often)
         with raises(TransactionLost):
@@ -185,10 +185,10 @@ def a_pool_outlives_a_time_without_work(address):
         for worker in workers:
             worker.start()
         time.sleep(4 * shortly / 1000)
-        jsp.write_all("a", [entry("Job", k=k) for k in range(1, 41)], lease=LONGEST)
+        jsp.write_all("a", [entry("Task", k=k) for k in range(1, 41)], lease=LONGEST)
         for k in range(1, 41):
             assert jsp.take("b", entry("Result", k=k), timeout=often)["square"] == k * k
-        jsp.write_all("a", [entry("Job")] * 2, lease=LONGEST)
+        jsp.write_all("a", [entry("Task")] * 2, lease=LONGEST)
         for worker in workers:
             worker.join()
         assert jsp.read("a", None) is None
