@@ -1,17 +1,35 @@
 #!/usr/bin/env bash
 # Runs the program with these arguments, this input and its own status. Where there is no program, or
-# a source is newer, it is built first: every crate is proved on the way. With --unproved before the
-# arguments of a script it is compiled and run at once, with checks in place of proofs.
+# it was built from other sources, it is built first: every crate is proved on the way. With --unproved
+# before the arguments of a script it is compiled and run at once, with checks in place of proofs.
 set -euo pipefail
 here=$(cd "$(dirname "${BASH_SOURCE[0]}")" && pwd)
 folder=$here/crates/jsp_program
 program=$folder/out/jsp_program
+built_from=$folder/out/built_from
 log=$here/build.log
 
+find_sources() {
+    (cd "$here" && find crates.txt crates -name out -prune -o -type f \( -name '*.rt' -o -name '*.antt' \
+        -o -name crates.txt \) "$@")
+}
+
+# One checksum of the program and of all that it is built from.
+sum_up() {
+    (cd "$here" && { find_sources -print0 | LC_ALL=C sort -z | xargs -0 sha256sum; sha256sum <"$program"; } | sha256sum)
+}
+
+# Times tell in a moment where no source is newer. In a checkout that was copied they tell nothing, so the checksum is
+# noted where they do, and compared where they don't.
 is_old() {
-    [ ! -x "$program" ] && return
-    [ -n "$(find "$here/crates.txt" "$here/crates" -name out -prune -o -type f \
-        \( -name '*.rt' -o -name '*.antt' -o -name crates.txt \) -newer "$program" -print -quit)" ]
+    [ -x "$program" ] || return 0
+    if [ -z "$(find_sources -newer "$program" -print -quit)" ]; then
+        [ "$built_from" -nt "$program" ] || sum_up >"$built_from"
+        return 1
+    fi
+    [ "$(sum_up)" = "$(cat "$built_from" 2>/dev/null)" ] || return 0
+    touch "$program" "$built_from"
+    return 1
 }
 
 # Names each crate as the log of the build comes to it, and says how far it is in a large one. It ends with this

@@ -1,4 +1,5 @@
-"""A server that is ended in order while requests of its clients are under way, and one that is halted and goes on.
+"""A server that is ended in order while requests of its clients are under way, or where it has few descriptors, and one
+that is halted and goes on.
 
     python3 ending.py PROGRAM..
 
@@ -6,7 +7,9 @@ Each request is sent and the server asked to end at once, so that it may come be
 where the server says each time that it compared its lines, and ends with status 0.
 """
 import os
+import resource
 import signal
+import socket
 import subprocess
 import sys
 import time
@@ -24,13 +27,14 @@ REQUESTS = {
 }
 
 
-def listen(program, *options):
+def listen(program, *options, descriptors=1024):
     """A server that ends at a line of input, and its address."""
     server = subprocess.Popen(
         [*program, "listen", "--until-input", *options, "127.0.0.1:0", "a", "b"],
         stdin=subprocess.PIPE,
         stdout=subprocess.PIPE,
         stderr=subprocess.PIPE,
+        preexec_fn=lambda: resource.setrlimit(resource.RLIMIT_NOFILE, (descriptors, descriptors)),
     )
     host, port = server.stdout.readline().decode().split()[1].rsplit(":", 1)
     return server, host, int(port)
@@ -62,7 +66,18 @@ def halt(program):
     assert (server.returncode, told) == (0, b"jsp: compared 1 lines\n"), (server.returncode, told)
 
 
+def end_with_few_descriptors(program, descriptors):
+    """The connection that wakes a server at its end needs a descriptor, which it keeps from its start on."""
+    server, host, port = listen(program, descriptors=descriptors)
+    with socket.create_connection((host, port)):
+        time.sleep(0.2)
+        told = server.communicate(b"\n", timeout=60)[1]
+    assert server.returncode == 0 and told.startswith(b"jsp: compared "), (descriptors, server.returncode, told)
+
+
 halt(sys.argv[1:])
+for descriptors in range(5, 10):
+    end_with_few_descriptors(sys.argv[1:], descriptors)
 for op, keys in REQUESTS.items():
     for _ in range(ROUNDS):
         ended = end_at(sys.argv[1:], op, keys)

@@ -12,6 +12,8 @@ use thiserror::Error;
 pub(crate) enum Fault {
     #[error("arguments cannot be read")]
     Arguments,
+    #[error("cannot open the null device for standard input, output or error, one of which is closed: {0}")]
+    Standard(io::Error),
     #[error("bad space name: {0}")]
     BadName(BadName),
     #[error("out of memory")]
@@ -35,11 +37,11 @@ pub(crate) enum Fault {
 }
 
 impl Fault {
-    /// The status that the program ends with: 2 where the arguments can't be used, 3 where a history differs, and
-    /// else 1.
+    /// The status that the program ends with: 2 where the arguments or the standard streams can't be used, 3
+    /// where a history differs, and else 1.
     pub(crate) fn status(&self) -> ExitCode {
         ExitCode::from(match self {
-            Fault::Arguments | Fault::BadName(_) => 2,
+            Fault::Arguments | Fault::BadName(_) | Fault::Standard(_) => 2,
             Fault::Audit => 3,
             Fault::NoMemory
             | Fault::Listen(_)

@@ -6,8 +6,10 @@ use crate::arguments::{
     UNTIL_INPUT, USUAL_BACKLOG, USUAL_CONNECTIONS, USUAL_ERA, USUAL_ERA_BYTES, VERSION,
 };
 use crate::fault::Fault;
+use crate::standard::open_null_device;
 use clap::ArgMatches;
 use jsp_serve::{Board, Bounds, Closed, Config, Service, Stop, serve, show_status};
+use std::fs::{File, Files};
 use std::io::{self, ErrorKind, Read, Stdin, Write};
 use std::net::{Net, SocketAddr, TcpListener, TcpStream};
 use std::process::ExitCode;
@@ -45,6 +47,8 @@ pub(crate) struct Window {
 pub(crate) struct End {
     address: SocketAddr,
     stop: Arc<Stop>,
+    /// What keeps a descriptor for the connection that wakes the server, which may have none left by then.
+    kept: File,
 }
 
 impl Server {
@@ -73,7 +77,7 @@ impl Server {
     }
 
     /// How standard input ends it, where it is to.
-    pub(crate) fn end(&self) -> Result<Option<End>, Fault> {
+    pub(crate) fn end<R: Files<File = File>>(&self, rt: &R) -> Result<Option<End>, Fault> {
         if !self.until_input {
             return Ok(None);
         }
@@ -81,8 +85,16 @@ impl Server {
             Ok(address) => address,
             Err(error) => return Err(Fault::Listen(error)),
         };
+        let kept = match open_null_device(rt) {
+            Ok(kept) => kept,
+            Err(error) => return Err(Fault::Listen(error)),
+        };
         let stop = Arc::try_clone(&self.stop)?;
-        Ok(Some(End { address, stop }))
+        Ok(Some(End {
+            address,
+            stop,
+            kept,
+        }))
     }
 
     /// What shows its status, where it is to be shown.
@@ -164,10 +176,16 @@ impl Window {
 impl End {
     /// Waits for a line of the input or its end, and stops the server, which a connection wakes.
     pub(crate) fn come<R: Clock + Net<Stream = TcpStream> + Wait>(self, rt: &R, input: Stdin) {
+        let End {
+            address,
+            stop,
+            kept,
+        } = self;
         wait_for_line(rt, input);
-        self.stop.ask();
+        stop.ask();
+        drop(kept);
         for _ in rt.forever() {
-            if TcpStream::connect(rt, self.address).is_ok() {
+            if TcpStream::connect(rt, address).is_ok() {
                 return;
             }
             thread::sleep(rt, Duration::from_millis(PAUSE));

@@ -13,6 +13,7 @@ mod client;
 mod fault;
 mod listen;
 mod spaces;
+mod standard;
 
 use arguments::{AUDIT, CLIENT, LISTEN, SCAN, command};
 use clap::ArgMatches;
@@ -23,8 +24,10 @@ use jsp_serve::{Config, Options, script};
 use jsp_shell::Typing;
 use listen::{End, Server, Window};
 use spaces::config;
+use standard::open_standard;
 use std::alloc::Global;
 use std::env::Env;
+use std::fs::{File, Files};
 use std::io::{self, Stderr, Stdin, Stdout};
 use std::net::{Net, TcpListener, TcpStream};
 use std::process::ExitCode;
@@ -64,8 +67,8 @@ fn main(rt: HostRuntime) -> ExitCode {
         out: rt.stdout(),
         faults: rt.stderr(),
     };
-    let done = match read_job(&rt, &streams) {
-        Ok(job) => match job.beside() {
+    let done = match open_standard(&rt).and_then(|()| read_job(&rt, &streams)) {
+        Ok(job) => match job.beside(&rt) {
             Ok(Beside { reader, window }) => {
                 // Nobody waits for these threads: what they are for may end before.
                 let reading = match reader {
@@ -119,18 +122,18 @@ struct Beside {
 
 impl Job {
     /// What is to run beside it.
-    fn beside(&self) -> Result<Beside, Fault> {
+    fn beside<R: Files<File = File>>(&self, rt: &R) -> Result<Beside, Fault> {
         Ok(Beside {
-            reader: self.reader()?,
+            reader: self.reader(rt)?,
             window: self.window()?,
         })
     }
 
     /// What is to read standard input meanwhile.
-    fn reader(&self) -> Result<Option<Reader>, Fault> {
+    fn reader<R: Files<File = File>>(&self, rt: &R) -> Result<Option<Reader>, Fault> {
         match self {
             Job::Told(_) | Job::Script(_, _) => Ok(None),
-            Job::Listen(server) => match server.end()? {
+            Job::Listen(server) => match server.end(rt)? {
                 Some(end) => Ok(Some(Reader::End(end))),
                 None => Ok(None),
             },
