@@ -21,8 +21,8 @@ pub fn item<T, K: Numbering<T> + Keying<T>>(thing: &T) -> Item
     }
 }
 
-/// Names a thing that is named nowhere yet under each of its keys, and adds it at the end: both, or neither
-/// where memory is refused. The others stay named.
+/// Names a thing that is named nowhere yet under each of its keys, and adds it at the end: both, or
+/// neither where memory is refused. The others stay named.
 pub(crate) fn append<T: Drop, K: Numbering<T> + Keying<T>>(
     alloc: Global,
     seed: u64,

@@ -23,8 +23,8 @@ pub(crate) fn name<T, K: Numbering<T> + Keying<T>>(
     Ok(())
 }
 
-/// Names a thing that is named nowhere yet under each of its keys, or under none where memory is refused. The
-/// others stay named.
+/// Names a thing that is named nowhere yet under each of its keys, or under none where memory is
+/// refused. The others stay named.
 pub(crate) fn name_wholly<T, K: Numbering<T> + Keying<T>>(
     alloc: Global,
     seed: u64,

@@ -1,7 +1,8 @@
-//! Keys whose texts are mixed in by words of eight bytes, and the last seven bytes or fewer one by one. How
-//! long a text is, and of which kind a value is, goes in before it, so that two keys are the same number by
-//! chance of the seed alone. That is at most a step more for each text and each value. A long text still
-//! takes about an eighth of the steps that it takes in `keys`; one of seven bytes or fewer takes no fewer.
+//! Keys whose texts are mixed in by words of eight bytes, and the last seven bytes or fewer one by one.
+//! How long a text is, and of which kind a value is, goes in before it, so that two keys are the same
+//! number by chance of the seed alone. That is at most a step more for each text and each value. A
+//! long text still takes about an eighth of the steps that it takes in `keys`; one of seven bytes or
+//! fewer takes no fewer.
 ghost use Rattle.std.specs.Prelude.{◌≡◌};
 ghost use Rattle.std.specs.Int.{w64, cast_unsigned as bits_of};
 ghost use Rattle.jsp_keyed.specs.Keys.{number_key};
@@ -22,8 +23,8 @@ fn mix_words(key: u64, bytes: &[u8]) -> u64
     mix_bytes(mixed, left)
 }
 
-/// How long it is goes in first: otherwise it may have the key of a longer one that goes on in nulls, or of
-/// one that goes on in what is mixed in behind it.
+/// How long it is goes in first: otherwise it may have the key of a longer one that goes on in nulls,
+/// or of one that goes on in what is mixed in behind it.
 fn mix_text(key: u64, text: &str) -> u64
     ensures { result ≡ text_mixed key text.now }
 {
