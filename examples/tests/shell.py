@@ -113,6 +113,14 @@ REFUSED = [
 ]
 
 
+# Control characters that are typed: the line, and all that is told of it. A no-break space and a letter are none.
+CONTROLS = [
+    ("\x1b[2J", "no operation `\\u001b[2J`; try `help`"),
+    ('write a Job "\t\0\r"', '`"\\u0009\\u0000\\u000d"` isn\'t `field=value`'),
+    ("spaces \x1f\x7f\x80\x9f\xa0é", "`spaces` has no place for `\\u001f\\u007f\\u0080\\u009f\xa0é`; try `help spaces`"),
+]
+
+
 class Shell:
     """A client whose input is written, and whose output read, as it goes on."""
 
@@ -205,6 +213,17 @@ def bytes_that_are_no_text(program, address):
     ran = subprocess.run([program, "client", address], input=text, capture_output=True, timeout=SECONDS)
     same(ran.stdout, b"".join(b'{"id":%d,"ok":["a","b"]}\n' % number for number in (1, 2, 3)))
     same((ran.stderr, ran.returncode), (b"jsp: line 2: not text in UTF-8\n", 1))
+
+
+def control_characters(program, address):
+    """A terminal finds none in what is told or printed, whether a line quoted them or a text of an entry has them."""
+    lines = [*(line for line, _ in CONTROLS), "declare Job who:text", "write a Job who=\x1b\x7f\x9b\xa0é lease=60000", "take a Job"]
+    out, told, status = run(program, address, lines)
+    same(told, [f"jsp: line {number}: {wanted}" for number, (_, wanted) in enumerate(CONTROLS, 1)])
+    same(out[:2], ['{"id":1,"ok":null}', '{"id":2,"ok":{"lease":1,"ms":60000}}'])
+    same(out[2:], ['{"id":3,"ok":{"class":"Job","fields":{"who":"\\u001b\\u007f\\u009b\xa0é"}}}'])
+    same(json.loads(out[2])["ok"]["fields"]["who"], "\x1b\x7f\x9b\xa0é")
+    same(status, 1)
 
 
 def an_event_comes_in_silence(program, address):
@@ -315,6 +334,19 @@ def a_server_that_sends_garbage(program):
     same((told, status), ("jsp: refused, 23\njsp: the server ended the connection\n", 1))
 
 
+def a_server_that_sends_control_characters(program):
+    """An answer is the same JSON in one line, in which a terminal finds nothing to obey. One that has them where JSON hasn't
+    isn't JSON."""
+    answer = '{\r\n\t"id":7,\n"ok":"\x7f\x80\x9f\xa0é \\u001b"}\n'
+    out, told, status = against(program, HELLO + frame(answer.encode()))
+    same(out, '{   "id":7, "ok":"\\u007f\\u0080\\u009f\xa0é \\u001b"} \n')
+    same(json.loads(out), json.loads(answer))
+    same((told, status), ("jsp: the server ended the connection\n", 1))
+    garbage = ("", "jsp: the server sent what isn't JSON\n", 1)
+    for payload in (b'{"id":7,"ok":"\x1b"}', b'{"id":7,\x1b"ok":0}', b'{"id":7,\xc2\x9b"ok":0}', b'{"id":7,"ok":"\x9b"}'):
+        same(against(program, HELLO + frame(payload)), garbage)
+
+
 def a_server_that_is_not_there(program):
     """The client says why, and sends nothing."""
     with socket.create_server(("127.0.0.1", 0)) as server:
@@ -332,6 +364,7 @@ CASES = {
     what_is_refused: 1,
     bad_lines: 1,
     bytes_that_are_no_text: 1,
+    control_characters: 1,
     an_event_comes_in_silence: 2,
     the_end_of_input_waits: 3,
     one_request: 6,
@@ -339,7 +372,12 @@ CASES = {
     help_has_each_operation: 26,
 }
 
-ALONE = [a_server_that_goes_away, a_server_that_sends_garbage, a_server_that_is_not_there]
+ALONE = [
+    a_server_that_goes_away,
+    a_server_that_sends_garbage,
+    a_server_that_sends_control_characters,
+    a_server_that_is_not_there,
+]
 
 if __name__ == "__main__":
     if sys.argv[1] == "cases":

@@ -1,7 +1,7 @@
 //! What the two threads of a session share: what is open, what was refused, and where lines are printed.
 use crate::advice::{advice, refusal_of};
 use crate::fault::{LineFault, ShellFault};
-use crate::print::print_line;
+use crate::print::{Said, print_line, print_lines};
 use crate::refused::{Refused, has_fault};
 use crate::request::Request;
 use jsp_frame::frame;
@@ -10,7 +10,7 @@ use std::alloc::{AllocError, Global};
 use std::collections::BTreeMap;
 use std::fmt::Display;
 use std::io::{Stderr, Stdout};
-use std::mem;
+use std::{mem, str};
 
 /// The id of the client's own requests: that of version 2 at the start, and `bye` at the end.
 pub(crate) const OWN: u64 = 0;
@@ -118,7 +118,10 @@ impl Desk {
 
     /// Prints an answer or an event, and tells of a refusal.
     pub(crate) fn answer(&mut self, payload: &[u8]) -> Result<Turn, ShellFault> {
-        let answer = match Json::from_slice(self.alloc, payload) {
+        let Ok(text) = str::from_utf8(payload) else {
+            return Err(ShellFault::NotJson);
+        };
+        let answer = match Json::from_str(self.alloc, text) {
             Ok(answer) => answer,
             Err(error) if error.is_memory() => return Err(ShellFault::NoMemory),
             Err(_) => return Err(ShellFault::NotJson),
@@ -129,7 +132,7 @@ impl Desk {
             None => None,
         };
         if id != Some(OWN) || has_fault(&answer) {
-            print_line(self.alloc, &mut self.out, payload)?;
+            print_line(self.alloc, &mut self.out, Said::Json, text)?;
         }
         self.refused.note_answer(&answer);
         self.tell_refusals(line.unwrap_or(0), &answer)?;
@@ -174,8 +177,8 @@ impl Desk {
     }
 
     /// Prints help.
-    pub(crate) fn show(&mut self, text: &str) -> Result<(), ShellFault> {
-        print_line(self.alloc, &mut self.out, text.as_bytes())
+    pub(crate) fn show(&mut self, help: &str) -> Result<(), ShellFault> {
+        print_lines(&mut self.out, help)
     }
 
     /// Tells something of a line, or of none where its number is 0.
@@ -186,7 +189,7 @@ impl Desk {
             format!(in self.alloc; "jsp: line {line}: {what}")?
         };
         // Who can't be told is still answered.
-        match print_line(self.alloc, &mut self.faults, told.as_bytes()) {
+        match print_line(self.alloc, &mut self.faults, Said::Words, told.as_str()) {
             Err(ShellFault::NoMemory) => Err(ShellFault::NoMemory),
             _ => Ok(()),
         }

@@ -5,8 +5,9 @@
 //! each. [`Client`] reads the connection, and [`Typing`] reads the input in another thread, so that an event is printed
 //! while nobody types.
 //!
-//! A session ends well only where nothing was refused (`specs/Refused.antt`): that, and that a printed line is what was
-//! said and a line's end, is proved. All else about what is sent and printed is tested.
+//! A session ends well only where nothing was refused (`specs/Refused.antt`), and a line that is printed or told is what
+//! was said with control characters escaped, and a line's end (`specs/Printed.antt`): that is proved. All else about what
+//! is sent and printed is tested.
 #![tactic(auto)]
 
 mod advice;

@@ -67,7 +67,7 @@ impl Session {
             Ok(Line::Nothing) => Ok(true),
             Ok(Line::Help(form)) => {
                 let text = help(self.alloc, form)?;
-                self.desk.lock(rt).show(text.as_str().trim_ascii_end())?;
+                self.desk.lock(rt).show(text.as_str())?;
                 Ok(true)
             }
             Ok(Line::Request(request)) => {
