@@ -11,6 +11,7 @@ import socket
 import struct
 import subprocess
 import sys
+import tempfile
 import time
 from pathlib import Path
 
@@ -153,6 +154,11 @@ def run(program, address, lines, *request):
     return ran.stdout.splitlines(), ran.stderr.splitlines(), ran.returncode
 
 
+def left(numbers):
+    """What is told of the lines of these numbers, which stand behind a `bye`."""
+    return [f"jsp: line {number}: not sent, since the session was left by `bye`" for number in numbers]
+
+
 def same(found, wanted):
     assert found == wanted, f"found {found!r}, wanted {wanted!r}"
 
@@ -245,8 +251,40 @@ def the_end_of_input_waits(program, address):
     # The server's clock tells whole milliseconds.
     assert time.monotonic() - began > 0.298
     lines = ["take a * timeout=1000000", "bye", "spaces"]
-    same(run(program, address, lines), (['{"id":2,"ok":null}'], ["jsp: line 1: not answered"], 1))
+    same(run(program, address, lines), (['{"id":2,"ok":null}'], [*left([3]), "jsp: line 1: not answered"], 1))
     same(run(program, address, []), ([], [], 0))
+
+
+def lines_behind_bye(program, address):
+    """Each that was written together with `bye` is told, and counts as refused, however often it is tried. Empty lines and
+    comments don't count."""
+    printed = ['{"id":1,"ok":null}']
+    lines = ["bye", "spaces", "", " \t\r", "  # no more", "help", " {", "take", "take a Job # " + "x" * 3000]
+    for _ in range(50):
+        same(run(program, address, lines), (printed, left([2, 6, 7, 8, 9]), 1))
+    same(run(program, address, ['{"op":"bye"}', "", "# no more", " "]), (printed, [], 0))
+    # The last line has no end.
+    ran = subprocess.run([program, "client", address], input=b"bye\n\xff", capture_output=True, timeout=SECONDS)
+    same((ran.stderr.decode().splitlines(), ran.returncode), (left([2]), 1))
+
+
+def much_behind_bye(program, address):
+    """Of a file all lines that begin in its first 8,192 bytes are told, and maybe more, without a gap. Input that never ends
+    doesn't hold up the end, and the status is 1 just where something was told."""
+    with tempfile.TemporaryFile("w+") as file:
+        file.write("bye\n" + "spaces\n" * 10_000)
+        file.seek(0)
+        ran = subprocess.run([program, "client", address], stdin=file, capture_output=True, text=True, timeout=SECONDS)
+    told = ran.stderr.splitlines()
+    assert len(told) >= 1170, len(told)
+    same((told, ran.returncode), (left(range(2, len(told) + 2)), 1))
+    for _ in range(20):
+        with subprocess.Popen(["sh", "-c", "echo bye; exec yes spaces"], stdout=subprocess.PIPE) as endless:
+            client = [program, "client", address]
+            ran = subprocess.run(client, stdin=endless.stdout, capture_output=True, text=True, timeout=SECONDS)
+            endless.kill()
+        told = ran.stderr.splitlines()
+        same((told, ran.returncode), (left(range(2, len(told) + 2)), 1 if told else 0))
 
 
 def one_request(program, address):
@@ -367,6 +405,8 @@ CASES = {
     control_characters: 1,
     an_event_comes_in_silence: 2,
     the_end_of_input_waits: 3,
+    lines_behind_bye: 52,
+    much_behind_bye: 21,
     one_request: 6,
     many_at_once: 1,
     help_has_each_operation: 26,

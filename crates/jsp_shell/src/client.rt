@@ -45,7 +45,9 @@ impl Client {
 
     /// Asks one thing, and nothing after it.
     pub fn ask<R: Wait>(&self, rt: &R, line: &str) -> Result<(), ShellFault> {
-        self.session.take_line(rt, 1, line.as_bytes())?;
+        if let Some(asked) = self.session.take_line(rt, 1, line.as_bytes())? {
+            self.session.send(asked.frame.as_slice());
+        }
         Ok(self.session.end_input(rt)?)
     }
 

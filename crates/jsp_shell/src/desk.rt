@@ -24,6 +24,8 @@ enum Stage {
     Ended,
     /// A `bye` of this id was sent.
     Leaving(u64),
+    /// It was said whether anything was refused.
+    Closed,
 }
 
 /// What is to be done after an answer.
@@ -82,11 +84,6 @@ impl Desk {
             self.stage = Stage::Leaving(id);
         }
         Ok(frame)
-    }
-
-    /// Whether more may be asked.
-    pub(crate) fn is_open(&self) -> bool {
-        self.stage == Stage::Open
     }
 
     /// The input has ended.
@@ -176,6 +173,16 @@ impl Desk {
         self.tell(line, fault)
     }
 
+    /// Tells that nothing is sent for a line behind a `bye`, unless the session is closed: what is told counts as refused.
+    /// Answers whether more may be told.
+    pub(crate) fn refuse_left(&mut self, line: u64) -> Result<bool, ShellFault> {
+        if self.stage == Stage::Closed {
+            return Ok(false);
+        }
+        self.refuse(line, LineFault::Left)?;
+        Ok(true)
+    }
+
     /// Prints help.
     pub(crate) fn show(&mut self, help: &str) -> Result<(), ShellFault> {
         print_lines(&mut self.out, help)
@@ -197,6 +204,7 @@ impl Desk {
 
     /// Whether anything was refused, at the end. What wasn't answered by then counts as refused.
     pub(crate) fn close(&mut self) -> Result<Refused, ShellFault> {
+        self.stage = Stage::Closed;
         let open = mem::replace(&mut self.open, BTreeMap::new(self.alloc));
         for (_, line) in open {
             self.refused.note();

@@ -44,6 +44,8 @@ pub(crate) enum LineFault {
     },
     #[error("cannot be read: {0}")]
     NotRead(io::Error),
+    #[error("not sent, since the session was left by `bye`")]
+    Left,
     #[error("out of memory")]
     NoMemory,
 }

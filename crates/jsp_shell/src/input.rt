@@ -47,6 +47,27 @@ impl<R: Read + Drop> Lines<R> {
         Ok(Some(line))
     }
 
+    /// Whether the input is read further than to the last line's end.
+    pub(crate) fn is_ahead(&self) -> bool {
+        !self.reader.buffer().is_empty()
+    }
+
+    /// The next bytes, which are those that were read ahead, or else those of one read, no bytes where it was interrupted.
+    /// None at the end, or where no more can be read.
+    pub(crate) fn piece(&mut self) -> Option<&[u8]> {
+        match self.reader.fill_buf() {
+            Ok(bytes) if bytes.is_empty() => None,
+            Ok(bytes) => Some(bytes),
+            Err(error) if error.kind() == ErrorKind::Interrupted => Some(&[]),
+            Err(_) => None,
+        }
+    }
+
+    /// Goes on behind so many of them.
+    pub(crate) fn pass(&mut self, bytes: usize) {
+        self.reader.consume(bytes);
+    }
+
     /// Reads more of a line, and answers whether it has ended. Of one that is too long no more is kept.
     fn read_some(&mut self, line: &mut Vec<u8>) -> Result<bool, LineFault> {
         let bytes = match self.reader.fill_buf() {

@@ -11,6 +11,7 @@
 #![tactic(auto)]
 
 mod advice;
+mod behind;
 mod client;
 mod desk;
 mod fault;

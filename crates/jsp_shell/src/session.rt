@@ -14,6 +14,14 @@ const HELLO: &[u8] = b"{\"id\":0,\"op\":\"hello\",\"version\":2}";
 
 const BYE: &[u8] = b"{\"id\":0,\"op\":\"bye\"}";
 
+/// A frame that a line of the input asks for.
+#[derive(Drop)]
+pub(crate) struct Asked {
+    pub(crate) frame: Vec<u8>,
+    /// Whether it is `bye`, behind which nothing is asked.
+    pub(crate) is_bye: bool,
+}
+
 /// A connection and what its two threads share.
 ///
 /// The lock isn't held while a frame is sent: a server that waits until its answers are read may take no more.
@@ -49,38 +57,41 @@ impl Session {
     }
 
     /// Sends a frame. Where it can't be sent the connection is ended, which its reader sees.
-    fn send(&self, frame: &[u8]) {
+    pub(crate) fn send(&self, frame: &[u8]) {
         let mut stream = &self.stream;
         if stream.write_all(frame).is_err() {
             let _ = self.stream.shutdown(Shutdown::Both);
         }
     }
 
-    /// Does what a line of the input asks, and answers whether the input goes on.
+    /// Does what a line of the input asks, but for sending: that is left to the caller.
     pub(crate) fn take_line<R: Wait>(
         &self,
         rt: &R,
         number: u64,
         line: &[u8],
-    ) -> Result<bool, ShellFault> {
+    ) -> Result<Option<Asked>, ShellFault> {
         match read_line(self.alloc, line) {
-            Ok(Line::Nothing) => Ok(true),
+            Ok(Line::Nothing) => Ok(None),
             Ok(Line::Help(form)) => {
                 let text = help(self.alloc, form)?;
                 self.desk.lock(rt).show(text.as_str())?;
-                Ok(true)
+                Ok(None)
             }
             Ok(Line::Request(request)) => {
+                let is_bye = request.is_bye();
                 let asked = self.desk.lock(rt).ask(number, request);
                 match asked {
-                    Ok(frame) => self.send(frame.as_slice()),
-                    Err(fault) => self.refuse(rt, number, fault)?,
+                    Ok(frame) => Ok(Some(Asked { frame, is_bye })),
+                    Err(fault) => {
+                        self.refuse(rt, number, fault)?;
+                        Ok(None)
+                    }
                 }
-                Ok(self.desk.lock(rt).is_open())
             }
             Err(fault) => {
                 self.refuse(rt, number, fault)?;
-                Ok(true)
+                Ok(None)
             }
         }
     }
@@ -93,6 +104,11 @@ impl Session {
         fault: LineFault,
     ) -> Result<(), ShellFault> {
         self.desk.lock(rt).refuse(number, fault)
+    }
+
+    /// Tells that nothing is sent for a line behind a `bye`, and answers whether more may be told.
+    pub(crate) fn refuse_left<R: Wait>(&self, rt: &R, number: u64) -> Result<bool, ShellFault> {
+        self.desk.lock(rt).refuse_left(number)
     }
 
     /// The input has ended: once all is answered the session is left.
