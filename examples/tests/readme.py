@@ -30,7 +30,7 @@ public class Readme {{
 def steps():
     """The commands and blocks of the section, in order: of each its kind and its text."""
     section = (ROOT / "README.md").read_text().split("\n## A server and its clients\n", 1)[1].split("\n## ", 1)[0]
-    for kind, block, command in re.findall(r"^```(\w+)\n(.*?)^```$|^ {4}(.+)$", section, re.MULTILINE | re.DOTALL):
+    for kind, block, command in re.findall(r"^```(\w+)\n(.*?)^```$|^ {4}([^\n]+)$", section, re.MULTILINE | re.DOTALL):
         yield kind or "command", block or command
 
 
@@ -50,8 +50,9 @@ class Page:
         self.kinds = {"text": self.type, "python": self.run_python, "java": self.run_java, "command": self.run_command}
 
     def with_own(self, text):
-        text = text.replace(ADDRESS, self.address).replace("7070", self.address.rsplit(":", 1)[1])
-        return text.replace("./jsp", self.program).replace(" classes ", f" {self.classes} ")
+        own = {ADDRESS: self.address, "7070": self.address.rsplit(":", 1)[1], "./jsp": self.program}
+        text = re.sub(r"127\.0\.0\.1:7070|7070|\./jsp", lambda found: own[found[0]], text)
+        return text.replace(" classes ", f" {self.classes} ")
 
     def type(self, session):
         """One line of it is refused. What is told of that is the last line."""
