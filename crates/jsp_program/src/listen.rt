@@ -183,6 +183,12 @@ impl End {
         } = self;
         wait_for_line(rt, input);
         stop.ask();
+        if TcpStream::connect(rt, address).is_ok() {
+            return;
+        }
+        // Where no descriptor is left, a server that asks for one again and again sees by itself that it is to stop, and
+        // would else take the one that is kept. One that waits for a connection has its own.
+        thread::sleep(rt, Duration::from_millis(4 * PAUSE));
         drop(kept);
         for _ in rt.forever() {
             if TcpStream::connect(rt, address).is_ok() {
