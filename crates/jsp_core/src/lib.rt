@@ -4,7 +4,7 @@
 //! but each list that is searched is kept in a type of its own, which says what it finds and changes
 //! by the plain list. Contracts see a `Core` as that `State`, so whatever is defined of states holds
 //! of it word for word. `LiveImage` is a `Core` within the limits of the profile, as an `Image` is a
-//! `State` within them. A state that is only kept, as the base of an era, is an `Image`.
+//! `State` within them. A state that is only kept is an `Image`, as the one that a replay begins with.
 #![tactic(auto)]
 
 mod live;

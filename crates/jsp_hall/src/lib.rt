@@ -2,8 +2,9 @@
 //!
 //! `Hall` meets `House` of jsp_model, as `RowsHouse` of jsp_rows does: it is that house, with the same
 //! choices and the same loops, over rows that are found by what requests ask for instead of being looked at
-//! one by one. So the two answer alike, byte for byte, and what stands in a space costs nothing to a
-//! request that doesn't ask for it. Servers, scripts and replays run this one.
+//! one by one. So the two answer alike, byte for byte, and what stands in a space mostly costs a request
+//! nothing that doesn't ask for it: docs/PERF.md says where it still does. Servers run this one, and so
+//! do scripts that aren't asked to look at each row; a replay keeps its state as this one does.
 #![tactic(auto)]
 
 mod hall;

@@ -2,8 +2,9 @@
 
 use crate::counts::Counts;
 
-/// Called at each frame and answer of a line, and at its end, with no lock held. A server's gate does nothing; a
-/// test's may hold a line until something else has happened.
+/// What is called with no lock held at each frame and answer of a line, where a session was shut since its
+/// client reads no answers, and where it is counted what stands. A server's shows what was counted; a test's
+/// may hold a line until something else has happened.
 pub trait Gate {
     /// Before the act of a session's nth frame, from 1.
     fn before(&self, session: u64, nth: u64);

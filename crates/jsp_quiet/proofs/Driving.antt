@@ -1,23 +1,18 @@
--- What an act of a house leaves quiet.
-use Rattle.std.proofs.Common.{◌≡◌, refl, sym, ◌∙◌, subst, ℕ, List, [], ◌∷◌, ◌++◌, Bool, true, false, not, cond, ◌&&◌, ◌||◌, true≢false}
-use Rattle.std.specs.Prelude.{Result, Ok, Err, map, filter}
+-- An act of a house keeps its state steady, and none of its steps decides.
+use Rattle.std.proofs.Common.{◌≡◌, refl, sym, ◌∙◌, subst, ℕ, List, [], ◌∷◌, Bool, true, false, not, cond, ◌&&◌, true≢false}
+use Rattle.std.specs.Prelude.{Result, map, filter}
 use Rattle.std.specs.List.{list_all}
-use Rattle.std.proofs.lemmas.Bool.{and_parts, and_from, or_right}
+use Rattle.std.proofs.lemmas.Bool.{and_parts}
 use Rattle.jsp_model.specs.declared.state.State.{State}
 use Rattle.jsp_model.specs.declared.step.Step.{Step}
 use Rattle.jsp_model.specs.declared.step.Step.TheVariants as step
 use Rattle.jsp_model.specs.declared.house.Input.{Input}
 use Rattle.jsp_model.specs.declared.house.Input.TheVariants as input
 use Rattle.jsp_model.specs.declared.house.Stopped.{Stopped}
-use Rattle.jsp_model.specs.Lookup.{contains}
-use Rattle.jsp_model.specs.Quiet.{is_quiet, are_quiet}
-use Rattle.jsp_model.specs.Runs.{state_after}
-use Rattle.jsp_model.specs.House.{is_unasked, bare, own_of, touched, step_of, accepts, was_done, acted, Leaves, Acts}
-use Rattle.jsp_laws.proofs.Lists.{each_numbers}
+use Rattle.jsp_model.specs.House.{is_unasked, bare, own_of, step_of, accepts, was_done, acted, Acts}
 use Rattle.jsp_quiet.specs.Steady.{IsSteady}
-use Rattle.jsp_quiet.specs.Quieting.{decides, is_settled, AllSettled}
+use Rattle.jsp_quiet.specs.Quieting.{decides}
 use Rattle.jsp_quiet.proofs.Steady.{steady_run}
-use Rattle.jsp_quiet.proofs.Runs.{passes_run}
 
 -- ---- acts
 
@@ -60,44 +55,5 @@ acted_undecided st x result = go (accepts st x && was_done result)
     go true = rw (asked_undecided x) refl
     go false = refl
 
--- what an act leaves is settled
-left_settled : (result : Result Unit Stopped) (new : State) (spaces left : List ℕ) → Leaves result new spaces left → list_all (is_settled new left) spaces ≡ true
-left_settled (Ok u) new spaces left (d, q, n) = settled spaces q
-  where
-    settled : (ps : List ℕ) → are_quiet new ps ≡ true → list_all (is_settled new left) ps ≡ true
-    settled [] e = refl
-    settled (p ∷ ps) e = let parts = and_parts (is_quiet new p) (are_quiet new ps) e in and_from (is_settled new left p) (list_all (is_settled new left) ps) (rw parts.0 refl) (settled ps parts.1)
-left_settled (Err e) new spaces left h = owed spaces h
-  where
-    owed : (ps : List ℕ) → list_all (contains left) ps ≡ true → list_all (is_settled new left) ps ≡ true
-    owed [] e = refl
-    owed (p ∷ ps) e = let parts = and_parts (contains left p) (list_all (contains left) ps) e in and_from (is_settled new left p) (list_all (is_settled new left) ps) (or_right (is_quiet new p) (contains left p) parts.0) (owed ps parts.1)
-
-both_all : (t : ℕ → Bool) (xs ys : List ℕ) → list_all t (xs ++ ys) ≡ true → (list_all t xs ≡ true) × (list_all t ys ≡ true)
-both_all t [] ys e = (refl, e)
-both_all t (x ∷ xs) ys e =
-    let parts = and_parts (t x) (list_all t (xs ++ ys)) e in
-    let rest = both_all t xs ys parts.1 in
-    (and_from (t x) (list_all t xs) parts.0 rest.0, rest.1)
-
 pub acts_steady : (old new : State) (owed left : List ℕ) (before after : List Step) (x : Input) (result : Result Unit Stopped) → IsSteady old → Acts old new owed left before after x result → IsSteady new
 acts_steady old new owed left before after x result h a = subst IsSteady a.makes.view (steady_run old a.steps a.makes.run h)
-
--- if each space was quiet or owed, it is so after the act
-pub acts_settle : (old new : State) (owed left : List ℕ) (before after : List Step) (x : Input) (result : Result Unit Stopped) → IsSteady old → Acts old new owed left before after x result
-    → AllSettled old owed → AllSettled new left
-acts_settle old new owed left before after x result h a s p =
-    go (is_quiet old p) refl (s p)
-  where
-    none : list_all (λ z. not (decides z)) a.steps ≡ true
-    none = undecided a.steps (subst (λ own. list_all (λ z. not (decides z)) own ≡ true) (sym a.own) (acted_undecided old x result))
-
-    parts : (list_all (is_settled new left) (touched old a.steps) ≡ true) × (list_all (is_settled new left) owed ≡ true)
-    parts = both_all (is_settled new left) (touched old a.steps) owed (left_settled result new (touched old a.steps ++ owed) left a.leaves)
-
-    quiet : (q : ℕ) → is_quiet (state_after old a.steps) q ≡ true → is_settled new left q ≡ true
-    quiet q e = let w : is_quiet new q ≡ true = subst (λ (st : State). is_quiet st q ≡ true) a.makes.view e in rw w refl
-
-    go : (b : Bool) → is_quiet old p ≡ b → (b || contains owed p) ≡ true → is_settled new left p ≡ true
-    go true e k = passes_run (is_settled new left) old a.steps p h a.makes.run none quiet parts.0 e
-    go false e k = each_numbers (is_settled new left) owed p parts.1 k

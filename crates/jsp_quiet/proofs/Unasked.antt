@@ -1,7 +1,7 @@
 -- What steps that nobody asked for leave as it is: the sessions, the asked commits, and the votes on what they would
 -- commit. So an input is accepted after them as before, and the next settle turn is the same.
-use Rattle.std.proofs.Common.{◌≡◌, refl, ap, sym, ◌∙◌, subst, ℕ, List, [], ◌∷◌, map, Bool, true, false, not, cond, ◌&&◌, Option, Some, None, is_some, is_none, ◌==◌, nat_lt, nat_le, true≢false}
-use Rattle.std.specs.Prelude.{find, filter, if◌then◌else◌, option_map}
+use Rattle.std.proofs.Common.{◌≡◌, refl, ap, sym, ◌∙◌, subst, ℕ, List, [], ◌∷◌, Bool, true, false, not, cond, ◌&&◌, Option, Some, None, is_some, ◌==◌, nat_lt, nat_le, true≢false}
+use Rattle.std.specs.Prelude.{find, filter}
 use Rattle.std.specs.List.{list_any, list_all}
 use Rattle.std.specs.Option.{option_map_or}
 use Rattle.std.proofs.lemmas.Bool.{and_from, eqb-true, eq-eqb, not-true}

@@ -20,7 +20,7 @@ use Rattle.jsp_model.specs.Runs.{IsRun, state_after}
 use Rattle.jsp_model.specs.House.{is_unasked, touched, Acts}
 use Rattle.jsp_laws.proofs.Lists.{Each, Has}
 use Rattle.jsp_quiet.specs.Steady.{IsSteady}
-use Rattle.jsp_quiet.specs.Quieting.{stirs, stirred, decides, can_make_due, quiets, owed_events, left_to_say, living, asks_for_some, AllAskForSome, AllSettled}
+use Rattle.jsp_quiet.specs.Quieting.{stirs, stirred, decides, can_make_due, quiets, owed_events, left_to_say, living, asks_for_some, AllAskForSome}
 use Rattle.jsp_quiet.specs.Waking.{moves, moves_any}
 use Rattle.jsp_quiet.specs.Freeing.{frees_any, WasThere}
 
@@ -57,12 +57,6 @@ abbrev pub ActsSteady : Type 0
 ActsSteady =
     (old new : State) (owed left : List ℕ) (before after : List Step) (x : Input) (result : Result Unit Stopped) → IsSteady old
     → Acts old new owed left before after x result → IsSteady new
-
--- An act of a house leaves each space quiet or owed, if each was so before.
-abbrev pub ActsSettle : Type 0
-ActsSettle =
-    (old new : State) (owed left : List ℕ) (before after : List Step) (x : Input) (result : Result Unit Stopped) → IsSteady old
-    → Acts old new owed left before after x result → AllSettled old owed → AllSettled new left
 
 -- ---- what goes on waiting, over any step from any state
 

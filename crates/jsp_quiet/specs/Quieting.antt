@@ -1,5 +1,5 @@
 -- Which spaces a step can leave unquiet, which steps can make something due, and what quieting uses up.
-use Rattle.std.specs.Prelude.{ℕ, ℤ, ◌+◌, ◌≤◌, nat_le, Bool, true, false, ◌||◌, ◌==◌, List, [], ◌∷◌, ◌++◌, length, sum_by, IsTrue}
+use Rattle.std.specs.Prelude.{ℕ, ℤ, ◌+◌, ◌≤◌, nat_le, Bool, true, false, ◌==◌, List, [], ◌∷◌, ◌++◌, length, sum_by}
 use Rattle.std.specs.List.{list_any}
 use Rattle.std.specs.Option.{option_map_or}
 use Rattle.jsp_wire.specs.declared.ask.Ask.{Ask}
@@ -9,8 +9,7 @@ use Rattle.jsp_model.specs.declared.state.State.{State}
 use Rattle.jsp_model.specs.declared.state.Blocked.{Blocked}
 use Rattle.jsp_model.specs.declared.step.Step.{Step}
 use Rattle.jsp_model.specs.declared.step.Step.TheVariants as step
-use Rattle.jsp_model.specs.Lookup.{contains, joined_spaces}
-use Rattle.jsp_model.specs.Quiet.{is_quiet}
+use Rattle.jsp_model.specs.Lookup.{joined_spaces}
 use Rattle.jsp_model.specs.Requests.{rows_asked}
 use Rattle.jsp_model.specs.Touches.{touches}
 use Rattle.jsp_laws.proofs.Lists.{Each}
@@ -83,12 +82,3 @@ asks_for_some _ = true
 
 abbrev pub AllAskForSome : State → Type 0
 AllAskForSome st = Each (λ (b : Blocked). 1 ≤ b.most) st.blocked
-
--- ---- what a house leaves
-
--- quiet, or still to be made so
-abbrev pub is_settled : State → List ℕ → ℕ → Bool
-is_settled st owed p = is_quiet st p || contains owed p
-
-abbrev pub AllSettled : State → List ℕ → Type 0
-AllSettled st owed = (p : ℕ) → IsTrue (is_settled st owed p)

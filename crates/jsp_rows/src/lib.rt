@@ -1,6 +1,7 @@
-//! A house, whose rows are looked at one by one.
+//! A house, however its rows are found.
 //!
-//! `RowsHouse` keeps the state of the abstract spaces as a `LiveImage`. It chooses steps and makes them
+//! `RowsHouse` keeps the state of the abstract spaces as a `LiveImage`, whose rows are looked at one by one
+//! (`new`) or found as a caller says (`keeping`), as jsp_hall has them found by hints. It chooses steps and makes them
 //! through jsp_audit, so each of its calls is a legal run: that is the contract `House` of jsp_model,
 //! which it meets. A call first finishes what an earlier one left and quiets the spaces that its own
 //! step touches, then makes that step, and then all that follows from it by itself (`finishing.rt`).

@@ -16,7 +16,7 @@ use jsp_reply::Said;
 use jsp_types::NoMemory;
 use std::alloc::Global;
 
-/// A house whose rows are looked at one by one.
+/// A house over a state whose rows are looked at one by one, or found by hints.
 #[derive(Drop)]
 pub struct RowsHouse {
     alloc: Global,
@@ -29,7 +29,7 @@ pub struct RowsHouse {
 }
 
 impl RowsHouse {
-    /// The empty house of a config. It owes nothing, and its log has no bound.
+    /// The empty house of a config, whose rows are looked at one by one. It owes nothing, and its log has no bound.
     pub fn new(alloc: Global, config: &Config) -> Result<RowsHouse, NoMemory>
         ensures view { IfOk result (λ h. h.image ≡ empty config.now) }
         ensures debt { IfOk result (λ h. h.debt.items ≡ []) }
@@ -38,7 +38,7 @@ impl RowsHouse {
         RowsHouse::keeping(alloc, config, Keeping::Scanned)
     }
 
-    /// The same, with its rows kept so. For a house that finds rows otherwise.
+    /// The same, with its rows kept so.
     pub fn keeping(alloc: Global, config: &Config, keeping: Keeping) -> Result<RowsHouse, NoMemory>
         ensures view { IfOk result (λ h. h.image ≡ empty config.now) }
         ensures debt { IfOk result (λ h. h.debt.items ≡ []) }

@@ -258,16 +258,6 @@ impl Waiters {
         }
     }
 
-    /// How many of the session's requests wait.
-    pub fn count_of(&self, session: u64) -> usize
-        ensures { result ≡ length (filter (λ b. b.session == session) self.now) }
-    {
-        match &self.kept {
-            Kept::Scanned(requests) => count_asked(requests, session),
-            Kept::Keyed(requests) => requests.count(&OfSession { session }),
-        }
-    }
-
     /// Whether at least so many of the session's requests wait.
     pub fn has_at_least(&self, session: u64, count: usize) -> bool
         ensures { result ≡ nat_le count (length (filter (λ b. b.session == session) self.now)) }
