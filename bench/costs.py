@@ -273,6 +273,27 @@ def held_beside(operation):
     return script_of
 
 
+def holds_itself(count):
+    """A transaction that holds so many entries, behind 30,000 that another wrote and one that anybody may have."""
+    script = holding("write")(30_000)
+    script.write(50_000_000)
+    txn = script.begin()
+    for value in range(count):
+        script.write(70_000_000 + value, txn=txn)
+    return script, txn
+
+
+def before_it_searches(count):
+    return holds_itself(count)[0]
+
+
+def it_searches(count):
+    script, txn = holds_itself(count)
+    for _ in range(TRANSFERS):
+        script.find("read", None, txn=txn)
+    return script
+
+
 def read_by_itself(count):
     """A transaction has read the oldest entry. Beside it stand so many that have its one value, and as many that have
     its other."""
@@ -391,6 +412,9 @@ def rows():
         yield name, (0, 1_000, 10_000, 60_000), holding(operation), takes_beside(operation), TRANSFERS
         name = f"a transaction that writes, takes and is aborted, beside entries that another {done}"
         yield name, (0, 1_000, 10_000, 60_000), holding(operation), held_beside(operation), TRANSFERS
+    yield "a read under a transaction that holds so many entries, beside 30,000 that another wrote", (
+        10, 100, 1_000, 10_000
+    ), before_it_searches, it_searches, TRANSFERS
     yield "a read of what the transaction has read, beside entries that have one of its two values", (
         1_000, 10_000, 30_000
     ), before_it_reads, it_reads_again, TRANSFERS

@@ -46,10 +46,16 @@ impl From<NoMemory> for ReplayFault {
     }
 }
 
-/// Runs the steps from the empty state of a config.
+/// Runs the steps from the empty state of a config. The seed is for the keys by which things are found,
+/// and who chose what the steps write shouldn't know it: no answer depends on it, but time does.
 ///
 /// Ok exactly where they are a run, want of memory apart.
-pub fn replay(alloc: Global, config: &Config, steps: &[Step]) -> Result<Replayed, ReplayFault>
+pub fn replay(
+    alloc: Global,
+    config: &Config,
+    steps: &[Step],
+    seed: u64,
+) -> Result<Replayed, ReplayFault>
     ensures run { OnOk result (IsRun (empty config.now) steps.now) }
     // So all laws of runs hold in what is accepted: no row is given to two takes, unless the first
     // was aborted; each transaction ends once, and in all its spaces; and so on.
@@ -59,19 +65,24 @@ pub fn replay(alloc: Global, config: &Config, steps: &[Step]) -> Result<Replayed
     ensures illegal { IfErr result (λ e. FailsAt e (first_illegal (empty config.now) steps.now)) }
 {
     let base = empty_image(alloc, config)?;
-    replay_from(alloc, &base, steps)
+    replay_from(alloc, &base, steps, seed)
 }
 
-/// Runs the steps from a state.
+/// Runs the steps from a state, with a seed as above.
 ///
 /// Ok exactly where they are a run from it, want of memory apart.
-pub fn replay_from(alloc: Global, base: &Image, steps: &[Step]) -> Result<Replayed, ReplayFault>
+pub fn replay_from(
+    alloc: Global,
+    base: &Image,
+    steps: &[Step],
+    seed: u64,
+) -> Result<Replayed, ReplayFault>
     ensures run { OnOk result (IsRun base.now steps.now) }
     ensures image { IfOk result (λ r. r.image ≡ state_after base.now steps.now) }
     ensures said { IfOk result (λ r. r.said.items ≡ said_in base.now steps.now) }
     ensures illegal { IfErr result (λ e. FailsAt e (first_illegal base.now steps.now)) }
 {
-    let mut image = LiveImage::of(alloc, base.copy(alloc)?, Keeping::Hinted { seed: 0 })?;
+    let mut image = LiveImage::of(alloc, base.copy(alloc)?, Keeping::Hinted { seed })?;
     let said = run_steps(alloc, &mut image, steps)?;
     Ok(Replayed { image, said })
 }

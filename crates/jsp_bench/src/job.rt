@@ -7,7 +7,7 @@ use crate::served::served;
 use crate::watchers::watchers_script;
 use crate::workers::workers_script;
 use jsp_model::Config;
-use jsp_serve::{Options, Status, script};
+use jsp_serve::{Options, Seeds, Status, script};
 use jsp_types::{Items, NoMemory, Text};
 use std::alloc::{AllocError, Global};
 use std::sync::Wait;
@@ -94,6 +94,7 @@ fn scripted(alloc: Global, config: &Config, audits: bool, text: &str) -> Option<
     let options = Options {
         audits,
         scans: false,
+        seeds: Seeds::known(),
     };
     let mut input = text.as_bytes();
     let mut printed = Digest::EMPTY;

@@ -164,7 +164,18 @@ pub(crate) fn served<T: Threads + Wait + time::Clock + Sync>(
         )),
     };
     let house = Hall::new(alloc, config, seed).ok()?;
-    run_house(rt, alloc, house, config, BOUNDS, line, &Still {}, &Still {}).ok()?;
+    run_house(
+        rt,
+        alloc,
+        house,
+        config,
+        BOUNDS,
+        seed,
+        line,
+        &Still {},
+        &Still {},
+    )
+    .ok()?;
     Some(Digest {
         hash: seen.hash.load(Ordering::SeqCst),
         bytes: seen.bytes.load(Ordering::SeqCst),

@@ -15,7 +15,7 @@ use jsp_model::{Config, Step};
 use std::alloc::Global;
 
 /// The history that has ended, which its lines show to be right where no era was sealed. They may
-/// come in any order.
+/// come in any order. The seed is for the replay, and whoever wrote to the lines shouldn't know it.
 ///
 /// The answer is `Audit` where they don't, and `NoMemory` where a growth was refused.
 pub fn close(
@@ -23,6 +23,7 @@ pub fn close(
     config: &Config,
     era: Era,
     lines: Vec<LineReport>,
+    seed: u64,
 ) -> Result<Closed, RunFault>
     requires { RestsAfter config.now era }
     ensures ok { IfOk result (Closes config.now) }
@@ -33,7 +34,7 @@ pub fn close(
     if is_sealed {
         return Ok(Closed::Sealed { steps });
     }
-    match close_whole(alloc, config, steps, lines) {
+    match close_whole(alloc, config, steps, lines, seed) {
         Ok(Whole { steps, lines }) => Ok(Closed::Whole { steps, lines }),
         Err(Fault::NoMemory) => Err(RunFault::NoMemory),
         Err(Fault::Differs) => Err(RunFault::Audit),
@@ -52,6 +53,7 @@ pub(crate) fn close_whole(
     config: &Config,
     steps: Vec<Step>,
     reports: Vec<LineReport>,
+    seed: u64,
 ) -> Result<Whole, Fault>
     ensures whole { IfOk result (λ whole. IsWhole config.now whole.steps.items whole.lines.items) }
     ensures lines { IfOk result (λ whole. IsPermutation reports.items whole.lines.items) }
@@ -67,6 +69,7 @@ pub(crate) fn close_whole(
         steps.as_slice(),
         reports.as_slice(),
         &mut lines,
+        seed,
     )?;
     Ok(Whole {
         steps,
@@ -81,11 +84,12 @@ fn check_whole(
     steps: &[Step],
     reports: &[LineReport],
     lines: &mut Vec<Line>,
+    seed: u64,
 ) -> Result<(), Fault>
     requires { HaveGiven reports.now lines.old.items steps.now }
     ensures { OnOk result (IsWhole config.now steps.now reports.now) }
 {
-    let replayed = replay(alloc, config, steps)?;
+    let replayed = replay(alloc, config, steps, seed)?;
     check_replayed(alloc, &replayed, steps, reports, lines)
 }
 

@@ -12,13 +12,14 @@ use std::sync::Wait;
 use std::sync::ledger::Ledger;
 
 /// What a run answers: a fault that was met, or else what its history is, compared with what its lines read and wrote
-/// where no era was sealed.
+/// where no era was sealed. The seed is for that.
 pub(crate) fn finish<H: House, A: Ledger, O: Ledger, T: Wait>(
     rt: &T,
     alloc: Global,
     config: &Config,
     kept: Kept<H, A, O>,
     served: Served,
+    seed: u64,
 ) -> Result<Closed, RunFault>
     ensures fault { IfSome served.fault (λ fault. result ≡ Err fault) }
     ensures closes { IfOk result (Closes config.now) }
@@ -29,7 +30,7 @@ pub(crate) fn finish<H: House, A: Ledger, O: Ledger, T: Wait>(
         return Err(fault);
     }
     match end(rt, config, kept) {
-        Ok(era) => close(alloc, config, era, reports),
+        Ok(era) => close(alloc, config, era, reports, seed),
         Err(why) => Err(fault_of(why)),
     }
 }

@@ -228,6 +228,7 @@ fn run_in<
     house: H,
     config: &Config,
     bounds: Bounds,
+    seed: u64,
     door: D,
     gate: &'x G,
     clock: &'x C,
@@ -266,11 +267,19 @@ fn run_in<
     server.serve_all::<R, W, D>(&mut door);
     drop(server);
     drop(gate);
-    finish(rt, alloc, config, floor.into_kept(), lines.into_served())
+    finish(
+        rt,
+        alloc,
+        config,
+        floor.into_kept(),
+        lines.into_served(),
+        seed,
+    )
 }
 
 /// Serves the lines of a door over an empty house until the door is closed and all have ended. A line above
-/// those that are served at once ends at once.
+/// those that are served at once ends at once. The seed is for the replay at the end, and clients
+/// shouldn't know it.
 pub fn run_house<
     H: Backlog + Send,
     R: Read + Send + Drop,
@@ -286,6 +295,7 @@ pub fn run_house<
     house: H,
     config: &Config,
     bounds: Bounds,
+    seed: u64,
     door: D,
     gate: &G,
     clock: &C,
@@ -301,6 +311,7 @@ pub fn run_house<
         house,
         config,
         bounds,
+        seed,
         door,
         gate,
         clock,

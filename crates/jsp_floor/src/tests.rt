@@ -299,7 +299,7 @@ fn door<'w, 'a, T>(
 // Whether the steps are a run, where all of them are there.
 fn is_run(alloc: Global, config: &Config, closed: &Closed) -> bool {
     match closed {
-        Closed::Whole { steps, .. } => replay(alloc, config, steps.as_slice()).is_ok(),
+        Closed::Whole { steps, .. } => replay(alloc, config, steps.as_slice(), 0).is_ok(),
         Closed::Sealed { .. } => true,
     }
 }
@@ -326,7 +326,7 @@ fn serve<T: Threads + Wait + time::Clock + Sync>(
         era_bytes: u64::MAX,
         backlog: u64::MAX,
     };
-    let Ok(closed) = run_house(rt, alloc, house, &config, bounds, lines, watch, &dial) else {
+    let Ok(closed) = run_house(rt, alloc, house, &config, bounds, 0, lines, watch, &dial) else {
         return Err(Fail::new("a fault"));
     };
     if watch.is_late.load(Ordering::SeqCst) {

@@ -1,6 +1,6 @@
 -- What who searches may have, who may hold rows itself.
-use Rattle.std.proofs.Common.{◌≡◌, ℕ, Bool, true, false, cond, ◌&&◌, ◌||◌, eqb, List, [], ◌∷◌, length, Option, Some, None, refl, ap, sym, ◌∙◌, subst, arith}
-use Rattle.std.specs.Prelude.{is_none, nat_eq}
+use Rattle.std.proofs.Common.{◌≡◌, ℕ, Bool, true, false, cond, ◌&&◌, ◌||◌, eqb, List, [], ◌∷◌, length, Option, Some, None, Bor, option_copied, refl, ap, sym, ◌∙◌, subst, arith}
+use Rattle.std.specs.Prelude.{is_none, nat_eq, IfSome, IfNone}
 use Rattle.std.specs.Option.{option_map_or}
 use Rattle.std.specs.List.{AllByRecursion, list_all}
 use Rattle.std.specs.HashMap.{HashMap, get}
@@ -131,3 +131,15 @@ shown_had classes m r h = grind (arith, common_steps)
 -- whatever passes is had where nothing is unseen
 pub all_open : (passed : Row → Bool) (rows : List Row) → AreOpen Nothing passed rows
 all_open passed rows = everywhere (λ r. passed r ≡ true → true ≡ true) rows (λ r h. refl)
+
+-- ---- what a transaction holds, if it holds some
+
+pub held_some : {S : Type 0} (holders : HashMap ℕ (List ℕ) S) (x : ℕ) (transaction : Option ℕ) (o : Option (List ℕ)) (rows : List Row) → transaction ≡ Some x → get nat_eq holders x ≡ o → AreHeld holders rows
+    → IfSome o (λ own. (takes : Bool) → AreOpenOr (cond takes Held Hidden) own (may_have takes transaction) rows)
+held_some holders x transaction None rows is got held = tt
+held_some holders x transaction (Some own) rows is got held = λ takes. subst (λ (y : Option ℕ). AreOpenOr (cond takes Held Hidden) own (may_have takes y) rows) (sym is) (had_or_some holders x own takes rows got held)
+
+pub held_none : {S : Type 0} (holders : HashMap ℕ (List ℕ) S) (x : ℕ) (transaction : Option ℕ) (o : Option (Bor (List ℕ))) (rows : List Row) → transaction ≡ Some x → get nat_eq holders x ≡ option_copied o → AreHeld holders rows
+    → IfNone o ((takes : Bool) → AreOpen (cond takes Held Hidden) (may_have takes transaction) rows)
+held_none holders x transaction None rows is got held = λ takes. subst (λ (y : Option ℕ). AreOpen (cond takes Held Hidden) (may_have takes y) rows) (sym is) (had_by_stranger holders x got takes rows held)
+held_none holders x transaction (Some own) rows is got held = tt

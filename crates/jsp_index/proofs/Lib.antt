@@ -10,3 +10,5 @@ pub mod Beside
 pub mod Heads
 pub mod Having
 pub mod OwnRows
+pub mod InBoth
+pub mod ByStretches

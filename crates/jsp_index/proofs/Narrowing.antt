@@ -15,7 +15,7 @@ use Rattle.jsp_table.specs.Numbers.{contains}
 use Rattle.jsp_table.specs.Finding.{AreNamed}
 use Rattle.jsp_table.proofs.Finding.{each}
 use Rattle.jsp_table.proofs.Rising.{or_cases}
-use Rattle.jsp_keyed.specs.Words.{class_word_key}
+use Rattle.jsp_keyed.specs.Keys.{class_key}
 use Rattle.jsp_index.specs.Keys.{row_keys}
 use Rattle.jsp_index.specs.Seen.{IsAmong}
 use Rattle.jsp_index.specs.Finding.{number, is_asked, is_like, IsLeast}
@@ -48,7 +48,7 @@ abbrev pub is_like_and : List Class → ℕ → Entry → List ℕ → Row → B
 is_like_and classes space like class r = is_like classes space (Like like) r && bytes_eq class r.entry.class
 
 module _ (classes : List Class) (space : ℕ) (like : Entry) (class : List ℕ) where
-  pub class_kept : (seed : ℕ) (r : Row) → is_like_and classes space like class r ≡ true → contains (row_keys seed r) (class_word_key seed space class) ≡ true
+  pub class_kept : (seed : ℕ) (r : Row) → is_like_and classes space like class r ≡ true → contains (row_keys seed r) (class_key seed space class) ≡ true
   class_kept seed r k =
       let two = and_both (is_like classes space (Like like) r) (bytes_eq class r.entry.class) k in
       let at : r.space ≡ space = eqb_eq r.space space (and_both (eqb r.space space) (matches classes (Like like) r.entry) two.0).0 in

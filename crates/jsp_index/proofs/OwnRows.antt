@@ -84,7 +84,7 @@ module _ (passed kind : Row → Bool) (after last : ℕ) (rows : List Row) where
 -- ---- the first of its own
 
 -- no number of a list stands before the next one
-next_up : (numbers : List ℕ) (last n m : ℕ) → AreIncreasing numbers → find (nat_lt last) numbers ≡ Some n → last < m → contains numbers m ≡ true → n ≤ m
+pub next_up : (numbers : List ℕ) (last n m : ℕ) → AreIncreasing numbers → find (nat_lt last) numbers ≡ Some n → last < m → contains numbers m ≡ true → n ≤ m
 next_up numbers last n m up is over there = elim (cases_lt m n) [
   | inl less ↦ absurd (cc (there, none_between numbers last n m up is over less))
   | inr more ↦ more
@@ -123,7 +123,7 @@ module _ (passed : Row → Bool) (own : List ℕ) (after : ℕ) (rows : List Row
   own_next last n (Some first) up is le there passes over = own_found last n first up is le there passes over
 
   -- the row of a number fails
-  all_fail : (n : ℕ) → AreRising number rows → Fails number passed n rows → AllByRecursion (λ r. r.number ≡ n → passed r ≡ false) rows
+  pub all_fail : (n : ℕ) → AreRising number rows → Fails number passed n rows → AllByRecursion (λ r. r.number ≡ n → passed r ≡ false) rows
   all_fail n up fails = at (numbered number n rows) refl fails where
     at : (o : Option Row) → numbered number n rows ≡ o → option_map_or passed o false ≡ false → AllByRecursion (λ r. r.number ≡ n → passed r ≡ false) rows
     at None e f = none_of (λ r. passed r ≡ false) n rows e

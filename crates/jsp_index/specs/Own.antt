@@ -20,6 +20,10 @@ pub record IsKept (passed kind : Row → Bool) (after : ℕ) (rows : List Row) (
   pub one : IsOneOf number passed rows kept
   pub least : AllByRecursion (λ row. is_next passed after row ≡ true → kind row ≡ true → IsUpTo number kept row.number) rows
 
+-- what passes has one of these numbers
+abbrev pub AreAmong : List ℕ → (Row → Bool) → List Row → Type 0
+AreAmong numbers passed rows = AllByRecursion (λ row. passed row ≡ true → contains numbers row.number ≡ true) rows
+
 -- the number isn't above the last one, if there is one
 abbrev pub is_within : Option ℕ → ℕ → Bool
 is_within last n = option_map_or (nat_le n) last true

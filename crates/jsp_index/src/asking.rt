@@ -7,7 +7,7 @@ ghost use Rattle.jsp_index.specs.Own.{is_within as is_within_of};
 use crate::starts::Unseen;
 use jsp_model::{Blocked, MatchSet, Row};
 use jsp_sight::{contains, is_available, is_caller, is_in_conflict, may_show};
-use jsp_table::Test;
+use jsp_table::{Numbers, Test};
 use jsp_types::Classes;
 
 /// Whether a request may be given the row.
@@ -118,12 +118,46 @@ impl<'a, P: Test<Row>> Test<Row> for Open<'a, P> {
 }
 
 /// Whether a number isn't above the last one, if there is one.
-fn is_within(last: Option<u64>, number: u64) -> bool
+pub(crate) fn is_within(last: Option<u64>, number: u64) -> bool
     ensures { result ≡ is_within_of last number }
 {
     match last {
         None => true,
         Some(last) => number <= last,
+    }
+}
+
+/// Whether the row isn't above the last number and passes a test.
+#[derive(Drop)]
+pub(crate) struct Within<'a, P: Test<Row>> {
+    pub(crate) last: Option<u64>,
+    pub(crate) test: &'a P,
+}
+
+impl<'a, P: Test<Row>> Test<Row> for Within<'a, P> {
+    ghost use Rattle.jsp_index.specs.Own.{is_within};
+
+    ghost is_passed = { λ s r. is_within s.last r.number && P.is_passed s.test.now r };
+
+    fn passes(&self, row: &Row) -> bool {
+        is_within(self.last, row.number) && self.test.passes(row)
+    }
+}
+
+/// Whether the row has one of these numbers and passes a test.
+#[derive(Drop)]
+pub(crate) struct Among<'a, P: Test<Row>> {
+    pub(crate) numbers: &'a Numbers,
+    pub(crate) test: &'a P,
+}
+
+impl<'a, P: Test<Row>> Test<Row> for Among<'a, P> {
+    ghost use Rattle.jsp_table.specs.Numbers.{contains};
+
+    ghost is_passed = { λ s r. contains s.numbers.now r.number && P.is_passed s.test.now r };
+
+    fn passes(&self, row: &Row) -> bool {
+        self.numbers.contains(row.number) && self.test.passes(row)
     }
 }
 

@@ -4,7 +4,7 @@ ghost use Rattle.jsp_lease.specs.declared.item.Rank.TheVariants.{Entry as OfRank
 ghost use Rattle.jsp_index.specs.Keys.{value_key, row_keys};
 
 use crate::NoMemory;
-use jsp_keyed::{Keyed, Keying, key_of_space, word_key_of_class, word_key_of_field};
+use jsp_keyed::{Keyed, Keying, key_of_class, key_of_field, key_of_space};
 use jsp_model::{Rank, Row};
 use jsp_table::Numbering;
 use jsp_types::{Text, Value};
@@ -39,7 +39,7 @@ impl Keying<Row> for ByNumber {
     fn key(seed: u64, row: &Row, place: usize) -> u64 {
         match place {
             0 => key_of_space(seed, row.space),
-            1 => word_key_of_class(seed, row.space, row.entry.class.as_str()),
+            1 => key_of_class(seed, row.space, row.entry.class.as_str()),
             _ => key_of_place(seed, row, place - 2),
         }
     }
@@ -80,6 +80,6 @@ fn key_of_value(seed: u64, space: u64, field: &(Text, Value)) -> u64
     if field.1.is_null() {
         key_of_space(seed, space)
     } else {
-        word_key_of_field(seed, space, field.0.as_str(), &field.1)
+        key_of_field(seed, space, field.0.as_str(), &field.1)
     }
 }

@@ -2,7 +2,7 @@
 ghost use Rattle.std.specs.Prelude.{◌≡◌, ◌⊎◌, List, Some, option_copied, IfSome};
 ghost use Rattle.jsp_types.specs.declared.class.Class.{Class as OfClass};
 ghost use Rattle.jsp_types.specs.declared.entry.Template.TheVariants.{Like};
-ghost use Rattle.jsp_keyed.specs.Words.{field_word_key};
+ghost use Rattle.jsp_keyed.specs.Keys.{field_key};
 ghost use Rattle.jsp_keyed.specs.Finding.{HaveKey};
 ghost use Rattle.jsp_index.specs.Keys.{row_keys};
 ghost use Rattle.jsp_index.specs.Finding.{is_like};
@@ -18,7 +18,7 @@ pub(crate) fn rarest_field<'a>(
     like: &'a Entry,
     space: u64,
 ) -> Option<&'a (Text, Value)>
-    ensures { IfSome (option_copied result) (λ field. (classes : List OfClass) → HaveKey row_keys (λ seed. field_word_key seed space field.0 field.1) (is_like classes space (Like like.now))) }
+    ensures { IfSome (option_copied result) (λ field. (classes : List OfClass) → HaveKey row_keys (λ seed. field_key seed space field.0 field.1) (is_like classes space (Like like.now))) }
 {
     let mut rarest = None;
     'fields: for field in like.fields.as_slice() {

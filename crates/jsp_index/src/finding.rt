@@ -101,9 +101,10 @@ impl HintedRows {
             number: 0,
             unseen: Unseen::Nothing,
             last: None,
+            among: None,
         };
         self.rows
-            .first_behind(classes, blocked.space, templates, behind, &test)
+            .first_behind(classes, blocked.space, templates, &behind, &test)
             .is_some()
     }
 

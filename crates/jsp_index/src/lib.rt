@@ -11,6 +11,7 @@
 #![tactic(auto)]
 
 mod asking;
+mod both;
 mod by_number;
 mod changing;
 mod choosing;
@@ -27,6 +28,7 @@ mod searching;
 mod seeing;
 mod seeking;
 mod starts;
+mod stretches;
 mod walking;
 
 pub use hinted::HintedRows;

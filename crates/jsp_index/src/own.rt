@@ -2,10 +2,9 @@
 //!
 //! Who holds nothing may have only rows that nobody holds, and those at the head of a list that somebody
 //! holds aren't passed one by one. Who holds a few may have these too: they are looked at first, and what
-//! nobody holds only up to the one that is found. Only who holds many passes what others wrote or read one
-//! by one.
-ghost use Rattle.std.specs.Prelude.{◌≡◌, ◌==◌, ◌<◌, ◌≤◌, true, false, find, option_copied, option_map, Bool, Option, if◌then◌else◌, IfSome};
-ghost use Rattle.std.specs.Bool.{OnTrue};
+//! nobody holds only up to the one that is found. Who holds many has both
+//! looked for by stretches (`stretches.rt`).
+ghost use Rattle.std.specs.Prelude.{◌≡◌, ◌==◌, ◌<◌, ◌≤◌, true, false, find, option_copied, option_map, Bool, Option, if◌then◌else◌, IfNone, IfSome};
 ghost use Rattle.std.specs.Option.{option_map_or};
 ghost use Rattle.std.specs.List.{AllByRecursion};
 ghost use Rattle.jsp_model.specs.declared.state.Row.{Row as OfRow};
@@ -34,6 +33,8 @@ const FEW: usize = 64;
 pub(crate) struct Scope<'a> {
     /// The numbers of the rows that the transaction holds, where they are few.
     pub(crate) own: Option<&'a Numbers>,
+    /// The same, where they are many.
+    pub(crate) many: Option<&'a Numbers>,
     pub(crate) unseen: Unseen,
 }
 
@@ -108,97 +109,87 @@ impl HintedRows {
         requires asked { (r : OfRow) → P.is_passed test.now r ≡ true → is_asked sought.now.classes.now sought.now.space sought.now.templates.now r ≡ true }
         requires had { (r : OfRow) → P.is_passed test.now r ≡ true → may_have sought.now.takes sought.now.transaction r ≡ true }
         requires opens { AreOpenOr scope.now.unseen (own_numbers (option_copied scope.now.own)) (may_have sought.now.takes sought.now.transaction) self.now }
+        requires many { IfSome (option_copied scope.now.many) (λ own. AreOpenOr (if sought.now.takes then Held else Hidden) own (may_have sought.now.takes sought.now.transaction) self.now) }
         requires least { IsLeast (is_next (P.is_passed test.now) after) (is_own (option_copied scope.now.own)) self.now (option_copied own) }
         ensures found { option_copied result ≡ find (is_next (P.is_passed test.now) after) self.now }
         ensures numbered { AreNumbered self.now }
     {
         let (classes, space, templates) = (sought.classes, sought.space, sought.templates);
         let (number, unseen) = (after, scope.unseen);
+        if let Some(own) = scope.many {
+            return self.first_of_stretches(sought, own, after, test);
+        }
         let Some(_) = scope.own else {
             let behind = Behind {
                 number,
                 unseen,
                 last: None,
+                among: None,
             };
             return self
                 .rows
-                .first_behind(classes, space, templates, behind, test);
+                .first_behind(classes, space, templates, &behind, test);
         };
         let last = number_of(own);
         let behind = Behind {
             number,
             unseen,
             last,
+            among: None,
         };
         let test = &Open { unseen, last, test };
         let open = self
             .rows
-            .first_behind(classes, space, templates, behind, test);
+            .first_behind(classes, space, templates, &behind, test);
         lesser::<Row, ByNumber>(open, own)
     }
 
     /// What a transaction, or who is under none, may take, or read.
     pub(crate) fn scope(&self, transaction: Option<u64>, takes: bool) -> Scope<'_>
-        ensures { AreOpenOr result.unseen (own_numbers (option_copied result.own)) (may_have takes transaction) self.now }
+        ensures opens { AreOpenOr result.unseen (own_numbers (option_copied result.own)) (may_have takes transaction) self.now }
+        ensures many { IfSome (option_copied result.many) (λ own. AreOpenOr (if takes then Held else Hidden) own (may_have takes transaction) self.now) }
     {
-        match self.few_held(transaction) {
+        match self.held(transaction) {
             None => Scope {
                 own: None,
-                unseen: self.unseen(transaction, takes),
-            },
-            Some(own) => Scope {
-                own: Some(own),
+                many: None,
                 unseen: unseen_by_strangers(takes),
             },
+            Some(own) if own.len() <= FEW => Scope {
+                own: Some(own),
+                many: None,
+                unseen: unseen_by_strangers(takes),
+            },
+            Some(own) => Scope {
+                own: None,
+                many: Some(own),
+                unseen: Unseen::Taken,
+            },
         }
     }
 
-    /// The numbers of the rows that a transaction holds, if they are few and there are some. What it may
-    /// have beside these nobody holds.
-    fn few_held(&self, transaction: Option<u64>) -> Option<&Numbers>
-        ensures { IfSome result (λ own. (takes : Bool) → AreOpenOr (if takes then Held else Hidden) own.now (may_have takes transaction) self.now) }
-    {
-        let x = transaction?;
-        let own = self.holders.get(&x)?;
-        if own.len() > FEW {
-            return None;
-        }
-        Some(own)
-    }
-
-    /// The rows that a transaction, or none, can't take or read, where it may hold rows itself.
-    fn unseen(&self, transaction: Option<u64>, takes: bool) -> Unseen
-        ensures { AreOpen result (may_have takes transaction) self.now }
-    {
-        if !self.holds_none(transaction) {
-            return Unseen::Taken;
-        }
-        unseen_by_strangers(takes)
-    }
-
-    /// Whether a transaction holds no row; or there is none.
-    fn holds_none(&self, transaction: Option<u64>) -> bool
-        ensures { OnTrue result ((takes : Bool) → AreOpen (if takes then Held else Hidden) (may_have takes transaction) self.now) }
+    /// The numbers of the rows that a transaction holds, if it holds some. What it may have beside these
+    /// nobody holds.
+    fn held(&self, transaction: Option<u64>) -> Option<&Numbers>
+        ensures some { IfSome (option_copied result) (λ own. (takes : Bool) → AreOpenOr (if takes then Held else Hidden) own (may_have takes transaction) self.now) }
+        ensures none { IfNone result ((takes : Bool) → AreOpen (if takes then Held else Hidden) (may_have takes transaction) self.now) }
     {
         match transaction {
-            None => true,
-            Some(x) => match self.holders.get(&x) {
-                None => true,
-                Some(_) => false,
-            },
+            None => None,
+            Some(x) => self.holders.get(&x),
         }
     }
 }
 
 /// The rows that who holds none can't take or read.
-fn unseen_by_strangers(takes: bool) -> Unseen
+pub(crate) fn unseen_by_strangers(takes: bool) -> Unseen
     ensures { result ≡ (if takes then Held else Hidden) }
 {
     if takes { Unseen::Held } else { Unseen::Hidden }
 }
 
 /// The number of a row, if there is one.
-fn number_of(row: Option<&Row>) -> Option<u64>
+pub(crate) fn number_of(row: Option<&Row>) -> Option<u64>
     ensures { result ≡ option_map (λ r. r.number) (option_copied row.entry) }
 {
     match row {
@@ -233,7 +224,7 @@ fn first_of_own<'a, P: Test<Row>>(
 }
 
 /// Whether there is a row, and it passes the test.
-fn passes<P: Test<Row>>(row: Option<&Row>, test: &P) -> bool
+pub(crate) fn passes<P: Test<Row>>(row: Option<&Row>, test: &P) -> bool
     ensures { result ≡ option_map_or (P.is_passed test.now) (option_copied row.entry) false }
 {
     match row {
@@ -242,9 +233,9 @@ fn passes<P: Test<Row>>(row: Option<&Row>, test: &P) -> bool
     }
 }
 
-/// Up to where no row of a space follows the one of a number. Behind a row of another space the numbers
+/// Up to where no row of a space follows a number. Behind a row of another space, or none, the numbers
 /// of that space are passed together.
-fn passed_to(rows: &Rows, space: u64, number: u64, row: Option<&Row>) -> u64
+pub(crate) fn passed_to(rows: &Rows, space: u64, number: u64, row: Option<&Row>) -> u64
     ensures up { number ≤ result }
     ensures none { AllByRecursion (λ r. (r.space == space) ≡ true → number < r.number → result < r.number) rows.now }
 {

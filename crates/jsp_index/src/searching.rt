@@ -1,5 +1,5 @@
 //! The first row that passes a test, among the lists of hints. Nothing here takes memory.
-ghost use Rattle.std.specs.Prelude.{◌≡◌, ◌&&◌, true, bytes_eq, find, option_copied, Bool, Some};
+ghost use Rattle.std.specs.Prelude.{◌≡◌, ◌&&◌, true, bytes_eq, find, option_copied, Bool, Some, IfSome};
 ghost use Rattle.std.specs.List.{AllByRecursion};
 ghost use Rattle.jsp_model.specs.declared.state.Row.{Row as OfRow};
 ghost use Rattle.jsp_types.specs.declared.entry.Template.TheVariants.{Like};
@@ -7,9 +7,10 @@ ghost use Rattle.jsp_table.specs.Finding.{AreNamed};
 ghost use Rattle.jsp_index.specs.Finding.{number as number_of, is_next, is_asked, is_like, IsLeast};
 ghost use Rattle.jsp_index.specs.Numbered.{AreNumbered};
 ghost use Rattle.jsp_index.specs.Passed.{AreOpen, AreListed};
-ghost use Rattle.jsp_index.specs.Own.{AreWithin};
+ghost use Rattle.jsp_index.specs.Own.{AreAmong, AreWithin};
 
 use crate::asking::{InSpace, OrAbove};
+use crate::both::first_in_both;
 use crate::by_number::{ByNumber, Rows};
 use crate::choosing::rarest_field;
 use crate::keyed::{KeyedRows, Listed};
@@ -21,12 +22,14 @@ use jsp_table::{Numbers, Test};
 use jsp_types::{Classes, Entry, Template};
 
 /// Behind which rows a search begins: those up to a number, and those at the head of a list that it
-/// can't have. And the last number that it looks at, if there is one.
-#[derive(Clone, Copy)]
-pub(crate) struct Behind {
+/// can't have. And the last number that it looks at, if there is one, and the numbers among which it
+/// looks, if not among all.
+#[derive(Drop)]
+pub(crate) struct Behind<'a> {
     pub(crate) number: u64,
     pub(crate) unseen: Unseen,
     pub(crate) last: Option<u64>,
+    pub(crate) among: Option<&'a Numbers>,
 }
 
 /// The first row above a number that is named and passes the test, which none above the last number
@@ -52,11 +55,15 @@ fn first_up_to<'a, P: Test<Row>>(
 
 impl KeyedRows {
     /// The first row of a list that passes the test, where only rows pass that the list's start leaves.
-    fn first_listed<P: Test<Row>>(&self, listed: &Listed, behind: Behind, test: &P) -> Option<&Row>
-        requires { AreWithin behind.last (P.is_passed test.now) self.now }
-        ensures { (kind had : OfRow → Bool) → AreListed kind had listed.now.numbers.now listed.now.start self.now → AllByRecursion (λ r. P.is_passed test.now r ≡ true → had r ≡ true) self.now → IsLeast (is_next (P.is_passed test.now) behind.number) kind self.now (option_copied result) }
+    fn first_listed<P: Test<Row>>(&self, listed: &Listed, behind: &Behind, test: &P) -> Option<&Row>
+        requires within { AreWithin behind.now.last (P.is_passed test.now) self.now }
+        requires among { IfSome (option_copied behind.now.among) (λ own. AreAmong own (P.is_passed test.now) self.now) }
+        ensures { (kind had : OfRow → Bool) → AreListed kind had listed.now.numbers.now listed.now.start self.now → AllByRecursion (λ r. P.is_passed test.now r ≡ true → had r ≡ true) self.now → IsLeast (is_next (P.is_passed test.now) behind.now.number) kind self.now (option_copied result) }
     {
         let after = behind.number.max(listed.start);
+        if let Some(own) = behind.among {
+            return first_in_both(&self.rows, listed.numbers, own, after, behind.last, test);
+        }
         match behind.last {
             None => self.rows.first_named(listed.numbers, after, test),
             Some(last) => first_up_to(&self.rows, listed.numbers, after, last, test),
@@ -72,12 +79,13 @@ impl KeyedRows {
         space: u64,
         class: &str,
         like: &Entry,
-        behind: Behind,
+        behind: &Behind,
         test: &P,
     ) -> Option<&Row>
-        requires had { AreOpen behind.unseen (P.is_passed test.now) self.now }
-        requires within { AreWithin behind.last (P.is_passed test.now) self.now }
-        ensures { IsLeast (is_next (P.is_passed test.now) behind.number) (λ r. is_like classes.now space (Like like.now) r && bytes_eq class.now r.entry.class) self.now (option_copied result) }
+        requires had { AreOpen behind.now.unseen (P.is_passed test.now) self.now }
+        requires within { AreWithin behind.now.last (P.is_passed test.now) self.now }
+        requires among { IfSome (option_copied behind.now.among) (λ own. AreAmong own (P.is_passed test.now) self.now) }
+        ensures { IsLeast (is_next (P.is_passed test.now) behind.now.number) (λ r. is_like classes.now space (Like like.now) r && bytes_eq class.now r.entry.class) self.now (option_copied result) }
     {
         let listed = self.listed(&OfClass { space, class }, behind.unseen);
         if listed.numbers.is_empty() {
@@ -97,12 +105,13 @@ impl KeyedRows {
         classes: &Classes,
         space: u64,
         like: &Entry,
-        behind: Behind,
+        behind: &Behind,
         test: &P,
     ) -> Option<&Row>
-        requires had { AreOpen behind.unseen (P.is_passed test.now) self.now }
-        requires within { AreWithin behind.last (P.is_passed test.now) self.now }
-        ensures { IsLeast (is_next (P.is_passed test.now) behind.number) (is_like classes.now space (Like like.now)) self.now (option_copied result) }
+        requires had { AreOpen behind.now.unseen (P.is_passed test.now) self.now }
+        requires within { AreWithin behind.now.last (P.is_passed test.now) self.now }
+        requires among { IfSome (option_copied behind.now.among) (λ own. AreAmong own (P.is_passed test.now) self.now) }
+        ensures { IsLeast (is_next (P.is_passed test.now) behind.now.number) (is_like classes.now space (Like like.now)) self.now (option_copied result) }
     {
         let mut first = None;
         'classes: for class in self.seen.as_slice() {
@@ -121,12 +130,13 @@ impl KeyedRows {
         classes: &Classes,
         space: u64,
         template: &Template,
-        behind: Behind,
+        behind: &Behind,
         test: &P,
     ) -> Option<&Row>
-        requires had { AreOpen behind.unseen (P.is_passed test.now) self.now }
-        requires within { AreWithin behind.last (P.is_passed test.now) self.now }
-        ensures { IsLeast (is_next (P.is_passed test.now) behind.number) (is_like classes.now space template.now) self.now (option_copied result) }
+        requires had { AreOpen behind.now.unseen (P.is_passed test.now) self.now }
+        requires within { AreWithin behind.now.last (P.is_passed test.now) self.now }
+        requires among { IfSome (option_copied behind.now.among) (λ own. AreAmong own (P.is_passed test.now) self.now) }
+        ensures { IsLeast (is_next (P.is_passed test.now) behind.now.number) (is_like classes.now space template.now) self.now (option_copied result) }
     {
         match template {
             Template::Any => {
@@ -150,13 +160,14 @@ impl KeyedRows {
         classes: &Classes,
         space: u64,
         templates: &[Template],
-        behind: Behind,
+        behind: &Behind,
         test: &P,
     ) -> Option<&Row>
         requires asked { (r : OfRow) → P.is_passed test.now r ≡ true → is_asked classes.now space templates.now r ≡ true }
-        requires had { AreOpen behind.unseen (P.is_passed test.now) self.now }
-        requires within { AreWithin behind.last (P.is_passed test.now) self.now }
-        ensures found { option_copied result ≡ find (is_next (P.is_passed test.now) behind.number) self.now }
+        requires had { AreOpen behind.now.unseen (P.is_passed test.now) self.now }
+        requires within { AreWithin behind.now.last (P.is_passed test.now) self.now }
+        requires among { IfSome (option_copied behind.now.among) (λ own. AreAmong own (P.is_passed test.now) self.now) }
+        ensures found { option_copied result ≡ find (is_next (P.is_passed test.now) behind.now.number) self.now }
         ensures numbered { AreNumbered self.now }
     {
         // Which says that the numbers rise.

@@ -1,10 +1,9 @@
 //! The keys under which rows are sought.
 ghost use Rattle.std.specs.Prelude.{[], ◌∷◌};
-ghost use Rattle.jsp_keyed.specs.Keys.{space_key};
-ghost use Rattle.jsp_keyed.specs.Words.{class_word_key, field_word_key};
+ghost use Rattle.jsp_keyed.specs.Keys.{space_key, class_key, field_key};
 
 use crate::asking::InSpace;
-use jsp_keyed::{Key, Keys, key_of_space, word_key_of_class, word_key_of_field};
+use jsp_keyed::{Key, Keys, key_of_class, key_of_field, key_of_space};
 use jsp_types::{Text, Value};
 
 impl Key for InSpace {
@@ -35,10 +34,10 @@ pub(crate) struct OfClass<'a> {
 }
 
 impl<'a> Key for OfClass<'a> {
-    ghost key_by = { λ s seed. class_word_key seed s.space s.class.now };
+    ghost key_by = { λ s seed. class_key seed s.space s.class.now };
 
     fn key(&self, seed: u64) -> u64 {
-        word_key_of_class(seed, self.space, self.class)
+        key_of_class(seed, self.space, self.class)
     }
 }
 
@@ -50,9 +49,9 @@ pub(crate) struct OfField<'a> {
 }
 
 impl<'a> Key for OfField<'a> {
-    ghost key_by = { λ s seed. field_word_key seed s.space s.field.now.0 s.field.now.1 };
+    ghost key_by = { λ s seed. field_key seed s.space s.field.now.0 s.field.now.1 };
 
     fn key(&self, seed: u64) -> u64 {
-        word_key_of_field(seed, self.space, self.field.0.as_str(), &self.field.1)
+        key_of_field(seed, self.space, self.field.0.as_str(), &self.field.1)
     }
 }

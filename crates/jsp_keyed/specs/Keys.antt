@@ -1,5 +1,7 @@
--- Keys, by a seed. Two may be the same number.
-use Rattle.std.specs.Prelude.{ℕ, ℤ, pos, negsuc, ◌*◌, ◌/◌, ◌-◌, ◌^◌, bit_and, bit_xor, if◌then◌else◌, List, [], ◌∷◌}
+-- Keys, by a seed. Two may be the same number, but only by chance of the seed: how long a text is, and of which kind a
+-- value is, goes in before it.
+use Rattle.std.specs.Prelude.{ℕ, ◌+◌, ◌*◌, ◌/◌, ◌-◌, ◌^◌, bit_and, bit_xor, if◌then◌else◌, List, [], ◌∷◌, length}
+use Rattle.std.specs.Int.{w64, cast_unsigned, from_le_bytes}
 use Rattle.jsp_types.specs.declared.value.Value.{Value}
 use Rattle.jsp_types.specs.declared.value.Value.TheVariants as value
 
@@ -15,15 +17,21 @@ abbrev pub mix_all : ℕ → List ℕ → ℕ
 mix_all key [] = key
 mix_all key (b ∷ bs) = mix_all (mix key b) bs
 
-abbrev pub int_code : ℤ → ℕ
-int_code (pos n) = n
-int_code (negsuc n) = n
+-- by eight bytes, of which one number is made, and the last seven or fewer one by one
+abbrev pub mix_words : ℕ → List ℕ → ℕ
+mix_words key (a ∷ b ∷ c ∷ d ∷ e ∷ f ∷ g ∷ h ∷ bytes) = mix_words (mix key (from_le_bytes w64 (a ∷ b ∷ c ∷ d ∷ e ∷ f ∷ g ∷ h ∷ []))) bytes
+mix_words key bytes = mix_all key bytes
 
+-- how long the text is, and its bytes
+abbrev pub mix_text : ℕ → List ℕ → ℕ
+mix_text key text = mix_words (mix key (length text)) text
+
+-- null is 0, false 1 and true 2; an integer is 3 and its 64 bits, a text 4 and its length as one number, and its bytes
 abbrev pub mix_value : ℕ → Value → ℕ
-mix_value key value.Null = key
-mix_value key (value.Int n) = mix key (int_code n)
-mix_value key (value.Text t) = mix_all key t
-mix_value key (value.Bool b) = mix key (if b then 1 else 0)
+mix_value key value.Null = mix key 0
+mix_value key (value.Bool b) = mix key (if b then 2 else 1)
+mix_value key (value.Int n) = mix (mix key 3) (cast_unsigned w64 n)
+mix_value key (value.Text t) = mix_words (mix key (4 + length t)) t
 
 -- of what has a number of this kind; spaces, classes and fields have the first three kinds, sessions, transactions
 -- and templates without a value the kinds 4, 5 and 8
@@ -43,8 +51,8 @@ transaction_key seed x = number_key seed 5 x
 abbrev pub any_key : ℕ → ℕ → ℕ
 any_key seed space = number_key seed 8 space
 
-abbrev pub class_key : ℕ → ℕ → List ℕ → ℕ
-class_key seed space class = mix_all (number_key seed 2 space) class
+unfoldable pub class_key : ℕ → ℕ → List ℕ → ℕ
+class_key seed space class = mix_text (number_key seed 2 space) class
 
-abbrev pub field_key : ℕ → ℕ → List ℕ → Value → ℕ
-field_key seed space name v = mix_value (mix_all (number_key seed 3 space) name) v
+unfoldable pub field_key : ℕ → ℕ → List ℕ → Value → ℕ
+field_key seed space name v = mix_value (mix_text (number_key seed 3 space) name) v

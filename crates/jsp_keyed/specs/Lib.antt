@@ -1,5 +1,4 @@
 pub mod Keys
-pub mod Words
 pub mod Templates
 pub mod Finding
 pub mod Kept

@@ -25,35 +25,8 @@ impl<T, K: Numbering<T> + Keying<T>> Keyed<T, K> {
         }
     }
 
-    /// The same, each or none: where memory is refused the other change takes this one back.
-    pub fn try_change_all<P: Test<T> + Keys, C: TryChange<T>, U: Change<T>>(
-        &mut self,
-        test: &P,
-        change: &C,
-        undo: &U,
-    ) -> Result<(), NoMemory>
-        requires seeks { (seed : ℕ) (x : T) → P.is_passed test.now x ≡ true → is_sought (P.sought test.now seed) (K.keys_of seed x) ≡ true }
-        requires keeps { (x : T) → HasSameKeys K.number_of K.keys_of K.end_of x (C.changed change.now x) }
-        requires keeps_back { (x : T) → HasSameKeys K.number_of K.keys_of K.end_of x (U.changed undo.now x) }
-        requires undone { IsUndone (P.is_passed test.now) (C.changed change.now) (U.changed undo.now) }
-        ensures ok { OnOk result (self.new ≡ map (where_passed (P.is_passed test.now) (C.changed change.now)) self.old) }
-        ensures err { OnErr result (self.new ≡ self.old) }
-    {
-        // Which says that no number is 0.
-        let _ = self.places();
-        let mut last = 0;
-        'things: while let Some(thing) = self.first_above(last, test) {
-            let number = K::number(thing);
-            if let Err(e) = self.try_change(number, change) {
-                self.change_all(&UpTo::<K, P>::of(last, test), undo);
-                return Err(e);
-            }
-            last = number;
-        }
-        Ok(())
-    }
-
-    /// The same, where each that passes the test is named.
+    /// The same of those that are named, which all are that pass the test, each or none: where memory is
+    /// refused the other change takes this one back.
     pub fn try_change_named<P: Test<T> + Keys, C: TryChange<T>, U: Change<T>>(
         &mut self,
         numbers: &Numbers,

@@ -22,12 +22,12 @@ mod keyed;
 mod keying;
 mod keys;
 mod listing;
+mod mixing;
 mod naming;
 mod passing;
 mod slots;
 mod templates;
 mod under;
-mod words;
 
 pub use adding::item;
 pub use finding::lesser;
@@ -39,4 +39,3 @@ pub use keys::{
 };
 pub use slots::sooner;
 pub use templates::{count_entry_keys, entry_key, key_of_template};
-pub use words::{word_key_of_class, word_key_of_field};

@@ -8,7 +8,7 @@ use crate::arguments::{
 use crate::fault::Fault;
 use crate::standard::open_null_device;
 use clap::ArgMatches;
-use jsp_serve::{Board, Bounds, Closed, Config, Service, Stop, serve, show_status};
+use jsp_serve::{Board, Bounds, Closed, Config, Seeds, Service, Stop, serve, show_status};
 use std::fs::{File, Files};
 use std::io::{self, ErrorKind, Read, Stdin, Write};
 use std::net::{Net, SocketAddr, TcpListener, TcpStream};
@@ -27,6 +27,8 @@ pub(crate) struct Server {
     listener: TcpListener,
     config: Config,
     service: Service,
+    /// Whether its seeds are numbers that nobody can know.
+    has_random_seeds: bool,
     stop: Arc<Stop>,
     /// Whether standard input ends it.
     until_input: bool,
@@ -53,11 +55,9 @@ pub(crate) struct End {
 
 impl Server {
     /// Listens where it is told.
-    pub(crate) fn listen<R: AllocGlobal + Net<Listener = TcpListener, Stream = TcpStream>>(
-        rt: &R,
-        config: Config,
-        given: &ArgMatches<'_>,
-    ) -> Result<Server, Fault> {
+    pub(crate) fn listen<
+        R: AllocGlobal + Net<Listener = TcpListener, Stream = TcpStream> + RandomSource,
+    >(rt: &R, config: Config, given: &ArgMatches<'_>) -> Result<Server, Fault> {
         let address = given.get_str(ADDRESS).unwrap_or_default();
         let listener = match TcpListener::bind(rt, address) {
             Ok(listener) => listener,
@@ -66,10 +66,12 @@ impl Server {
         let Ok(stop) = Arc::new(rt.alloc(), Stop::new()) else {
             return Err(Fault::NoMemory);
         };
+        let seeds = Seeds::random(rt);
         Ok(Server {
             listener,
             config,
-            service: service(given),
+            service: service(given, seeds.unwrap_or(Seeds::known())),
+            has_random_seeds: seeds.is_some(),
             stop,
             until_input: given.get_flag(UNTIL_INPUT),
             window: Window::open(rt, given)?,
@@ -106,17 +108,22 @@ impl Server {
     }
 
     /// Says where it listens, and serves. At its end it says on standard error what was compared.
-    pub(crate) fn serve<
-        R: AllocGlobal + Print + Eprint + Clock + RandomSource + Threads + Wait + Sync,
-    >(self, rt: &R) -> Result<ExitCode, Fault> {
+    pub(crate) fn serve<R: AllocGlobal + Print + Eprint + Clock + Threads + Wait + Sync>(
+        self,
+        rt: &R,
+    ) -> Result<ExitCode, Fault> {
         let Server {
             listener,
             config,
             service,
+            has_random_seeds,
             stop,
             until_input: _,
             window,
         } = self;
+        if !has_random_seeds && say_seeds(rt).is_err() {
+            return Err(Fault::Write);
+        }
         if say_where(rt, &listener, &window).is_err() {
             return Err(Fault::Write);
         }
@@ -200,7 +207,7 @@ impl End {
 }
 
 /// How it is to serve.
-fn service(given: &ArgMatches<'_>) -> Service
+fn service(given: &ArgMatches<'_>, seeds: Seeds) -> Service
     ensures { (1 ≤ result.bounds.era) × (result.bounds.era ≤ 16777216) }
 {
     let number = |id: &str, usual: u64| given.get_one::<u64>(id).unwrap_or(usual);
@@ -213,6 +220,7 @@ fn service(given: &ArgMatches<'_>) -> Service
             era_bytes: number(ERA_BYTES, USUAL_ERA_BYTES),
             backlog: number(BACKLOG, USUAL_BACKLOG),
         },
+        seeds,
     }
 }
 
@@ -227,6 +235,13 @@ fn wait_for_line<R: Wait>(rt: &R, input: Stdin) {
             _ => return,
         }
     }
+}
+
+/// Says that its seeds are known, so that clients can slow one another down.
+fn say_seeds(rt: &impl Eprint) -> io::Result<()> {
+    eprintln!(rt;
+        "jsp: no random number can be had: clients can choose texts that are slow to find"
+    )
 }
 
 /// Says where it listens: the address that was bound, with the port that was found.

@@ -3,7 +3,7 @@
 //! `jsp script NAME..` runs the script on standard input over the spaces NAME.. and prints each
 //! answer; with `--audit` it replays the run first, and compares it with what was sent, and with
 //! `--scan` it looks at each entry in every search. `jsp listen ADDR NAME..` serves clients over TCP. Both end with
-//! status 0, also after help, with 2 where the arguments can't be used, with 3 where a server's history differs from
+//! status 0, also after help, with 2 where the arguments or the standard streams can't be used, with 3 where a server's history differs from
 //! what its lines read and wrote, and else with 1 after the first fault met, which is told on standard error.
 //! `jsp client ADDR` makes requests of a server, and ends with 1 where one was refused too.
 #![tactic(auto)]
@@ -20,7 +20,7 @@ use clap::ArgMatches;
 use clap::error::{Error, ErrorKind};
 use client::Shell;
 use fault::Fault;
-use jsp_serve::{Config, Options, script};
+use jsp_serve::{Config, Options, Seeds, script};
 use jsp_shell::Typing;
 use listen::{End, Server, Window};
 use spaces::config;
@@ -152,7 +152,7 @@ impl Job {
         }
     }
 
-    fn run<R: AllocGlobal + Print + Eprint + Clock + RandomSource + Threads + Wait + Sync>(
+    fn run<R: AllocGlobal + Print + Eprint + Clock + Threads + Wait + Sync>(
         self,
         rt: &R,
         streams: Streams,
@@ -177,7 +177,12 @@ impl Reader {
 
 /// What the arguments ask for. A server listens by then.
 fn read_job<
-    R: AllocGlobal + Env + Print + Eprint + Net<Listener = TcpListener, Stream = TcpStream>,
+    R: AllocGlobal
+        + Env
+        + Print
+        + Eprint
+        + Net<Listener = TcpListener, Stream = TcpStream>
+        + RandomSource,
 >(rt: &R, streams: &Streams) -> Result<Job, Fault> {
     let alloc = rt.alloc();
     let words = words(rt)?;
@@ -198,6 +203,8 @@ fn read_job<
             let options = Options {
                 audits: given.get_flag(AUDIT),
                 scans: given.get_flag(SCAN),
+                // Whoever has no random number runs a script of somebody's all the same.
+                seeds: Seeds::random(rt).unwrap_or(Seeds::known()),
             };
             Ok(Job::Script(config, options))
         }

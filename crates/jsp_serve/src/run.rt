@@ -14,6 +14,7 @@ use crate::audit::audit;
 use crate::fault::ScriptFault;
 use crate::lines::read_acts;
 use crate::print::printed;
+use crate::seeds::Seeds;
 use crate::writing::{tell, write_bytes};
 use jsp_drive::{Act, Driven, drive};
 use jsp_hall::{Hall, RowsHouse};
@@ -26,7 +27,7 @@ use std::process::ExitCode;
 /// The longest script, in bytes.
 const LONGEST: u64 = 16_777_216;
 
-/// How a script is run. Neither changes what is promised.
+/// How a script is run. None of these changes what is promised.
 #[derive(Clone, Copy, Debug, PartialEq, Eq)]
 pub struct Options {
     /// Whether the run is replayed before anything is written, and compared with what was sent. That
@@ -35,6 +36,7 @@ pub struct Options {
     /// Whether each row is looked at in every search, instead of those that hints name. That takes
     /// time.
     pub scans: bool,
+    pub seeds: Seeds,
 }
 
 /// How a script ended.
@@ -132,29 +134,35 @@ pub(crate) fn answers(
     ensures fault { IfErr result (FailsBy (lines_of text.now)) }
 {
     let acts = read_acts(alloc, text)?;
-    let driven = driven(alloc, config, options.scans, acts.as_slice())?;
+    let driven = driven(alloc, config, options, acts.as_slice())?;
     if options.audits {
         audit(
             alloc,
             config,
             driven.steps.as_slice(),
             driven.sent.as_slice(),
+            options.seeds.replay,
         )?;
     }
     Ok(printed(alloc, driven.sent.as_slice())?)
 }
 
 /// The acts run on an empty house: one that looks at each row, or one that finds rows by hints.
-fn driven(alloc: Global, config: &Config, scans: bool, acts: &[Act]) -> Result<Driven, NoMemory>
+fn driven(
+    alloc: Global,
+    config: &Config,
+    options: Options,
+    acts: &[Act],
+) -> Result<Driven, NoMemory>
     ensures run { IfOk result (λ d. IsRun (empty config.now) d.steps.items) }
     ensures tied { IfOk result (λ d. IsTied config.now acts.now d.steps.items d.sent.items) }
     ensures bytes { IfOk result (λ d. (s : ℕ) → bytes_to s d.sent.items ≡ flat_map framed (said_to s (empty config.now) d.steps.items)) }
 {
-    if scans {
+    if options.scans {
         return drive(alloc, RowsHouse::new(alloc, config)?, config, acts);
     }
-    // Nobody else chooses what a script writes, so the seed may be any.
-    drive(alloc, Hall::new(alloc, config, 0)?, config, acts)
+    let hall = Hall::new(alloc, config, options.seeds.house)?;
+    drive(alloc, hall, config, acts)
 }
 
 fn read_text<R: Read>(alloc: Global, reader: &mut R) -> Result<Vec<u8>, ScriptFault>

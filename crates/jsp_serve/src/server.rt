@@ -4,6 +4,7 @@ ghost use Rattle.jsp_closing.specs.Closing.{Closes};
 
 use crate::board::Board;
 use crate::connections::Connections;
+use crate::seeds::Seeds;
 use crate::stop::Stop;
 use jsp_floor::{Bounds, Clock, Closed, Counts, Gate, RunFault, run_house};
 use jsp_hall::Hall;
@@ -11,7 +12,6 @@ use jsp_model::Config;
 use jsp_status::{RefusalCount, SpaceStatus, Status};
 use std::alloc::{AllocError, Global};
 use std::net::TcpListener;
-use std::random::RandomSource;
 use std::sync::Wait;
 use std::thread::Threads;
 use std::time::{Clock as SystemClock, Duration, Instant};
@@ -126,12 +126,13 @@ pub struct Service {
     /// How many are served at once, and what the history takes of memory: a step is some 300 bytes where requests are
     /// short.
     pub bounds: Bounds,
+    pub seeds: Seeds,
 }
 
 /// Serves the connections of the listener over the spaces of `config`, and ends when there were as many as
 /// `service` says and all have ended, or in order once it is asked to `stop`. Meanwhile it puts its status on the board
 /// where that is asked for.
-pub fn serve<T: Threads + Wait + SystemClock + RandomSource + Sync>(
+pub fn serve<T: Threads + Wait + SystemClock + Sync>(
     rt: &T,
     alloc: Global,
     listener: TcpListener,
@@ -144,7 +145,7 @@ pub fn serve<T: Threads + Wait + SystemClock + RandomSource + Sync>(
     requires { (1 ≤ service.bounds.era) × (service.bounds.era ≤ 16777216) }
     ensures { IfOk result (Closes config.now) }
 {
-    let Ok(house) = Hall::new(alloc, config, seed_of(rt)) else {
+    let Ok(house) = Hall::new(alloc, config, service.seeds.house) else {
         return Err(RunFault::NoMemory);
     };
     let clock = Uptime {
@@ -166,17 +167,9 @@ pub fn serve<T: Threads + Wait + SystemClock + RandomSource + Sync>(
         house,
         config,
         service.bounds,
+        service.seeds.replay,
         connections,
         &gate,
         &clock,
     )
-}
-
-/// A number that clients can't know, or 0 where the system gives none.
-fn seed_of(rt: &impl RandomSource) -> u64 {
-    let mut bytes = [0; 8];
-    match rt.fill_bytes(&mut bytes) {
-        Ok(()) => u64::from_le_bytes(bytes),
-        Err(_) => 0,
-    }
 }

@@ -1,11 +1,11 @@
 -- Numbers in rising order, one more and one less.
-use Rattle.std.proofs.Common.{◌≡◌, ◌≢◌, ℕ, zero, suc, ◌+◌, ◌-◌, ◌<◌, ◌≤◌, Bool, true, false, ◌||◌, eqb, List, [], ◌∷◌, length, Ok, Err, inl, inr, ◌⊎◌, refl, ap, sym, ◌∙◌, subst, arith}
-use Rattle.std.specs.Prelude.{slice_index}
+use Rattle.std.proofs.Common.{◌≡◌, ◌≢◌, ℕ, zero, suc, ◌+◌, ◌-◌, ◌<◌, ◌≤◌, Bool, true, false, ◌||◌, eqb, List, [], ◌∷◌, length, Result, Ok, Err, inl, inr, ◌⊎◌, refl, ap, sym, ◌∙◌, subst, arith}
+use Rattle.std.specs.Prelude.{slice_index, is_ok}
 use Rattle.std.specs.List.{insert, remove}
 use Rattle.std.proofs.lemmas.Bool.{cases_eq, cases_lt, eq-eqb, ne_eqb}
 use Rattle.std.proofs.lemmas.List.Edits.{length-insert, get_or-insert_below, get_or-insert_at, get_or-insert_above, length-remove, get_or-remove_below, get_or-remove_above}
 use Rattle.std.proofs.lemmas.List.Sorted.{searched}
-use Rattle.std.specs.List.Sorted.{IsBinarySearchResult}
+use Rattle.std.specs.List.Sorted.{IsBinarySearchResult, IsSearchInRange}
 use Rattle.std.specs.Ordering.{nat_cmp}
 use Rattle.jsp_table.specs.Numbers.{contains, AreIncreasing}
 
@@ -120,3 +120,22 @@ found_by xs ys n i up same h = found_there xs n i up (subst (λ (w : List ℕ). 
 pub inserted : (xs ys : List ℕ) (n i : ℕ) → AreIncreasing xs → ys ≡ xs → IsBinarySearchResult (λ y. nat_cmp y n) ys (Err i) → i ≤ length ys → AreIncreasing (insert xs i n)
 inserted xs ys n i up same h le =
     insert_increasing xs i n up (found_between xs n i up (subst (λ (w : List ℕ). IsBinarySearchResult (λ y. nat_cmp y n) w (Err i)) same h) (subst (λ (w : List ℕ). i ≤ length w) same le))
+
+-- ---- whether a number is among them
+
+-- none of those that a search splits is the number
+split_lacks : (xs : List ℕ) (n i : ℕ) → Splits xs n i → contains xs n ≡ false
+split_lacks xs n i s = lacks xs (λ k lt. elim (cases_lt k i) [ inl less ↦ below (s.below k less) | inr more ↦ above (s.above k more lt) ]) where
+  below : {a b : ℕ} → a < b → a ≢ b
+  below lt e = omega arith
+
+  above : {a b : ℕ} → b < a → a ≢ b
+  above lt e = omega arith
+
+  lacks : (ys : List ℕ) → ((k : ℕ) → k < length ys → slice_index ys k ≢ n) → contains ys n ≡ false
+  lacks [] h = refl
+  lacks (y ∷ ys) h = rw (ne_eqb y n (h zero (omega arith))) (lacks ys (λ k lt. h (suc k) (omega arith)))
+
+pub is_among : (xs : List ℕ) (n : ℕ) (r : Result ℕ ℕ) → AreIncreasing xs → IsSearchInRange r (length xs) → IsBinarySearchResult (λ y. nat_cmp y n) xs r → is_ok r ≡ contains xs n
+is_among xs n (Ok i) up bound h = let f = found_there xs n i up h in sym (contains_at xs i n f.0 f.1)
+is_among xs n (Err i) up bound h = sym (split_lacks xs n i (found_between xs n i up h bound))

@@ -4,6 +4,14 @@ ghost use Rattle.jsp_table.specs.Numbers.{contains, AreIncreasing};
 
 use crate::NoMemory;
 
+/// Whether a number is one of them.
+pub(crate) fn are_few_with(numbers: &[u64], number: u64) -> bool
+    requires { AreIncreasing numbers.now }
+    ensures { result ≡ contains numbers.now number }
+{
+    numbers.binary_search(&number).is_ok()
+}
+
 /// The least number above this one.
 pub(crate) fn next_of_few(numbers: &[u64], number: u64) -> Option<u64>
     requires { AreIncreasing numbers.now }

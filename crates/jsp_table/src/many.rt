@@ -17,6 +17,13 @@ pub(crate) fn many_of(alloc: Global, numbers: &[u64]) -> Result<BTreeSet<u64>, N
     Ok(many)
 }
 
+/// Whether a number is one of them.
+pub(crate) fn are_many_with(numbers: &BTreeSet<u64>, number: u64) -> bool
+    ensures { result ≡ contains numbers.now.keys number }
+{
+    numbers.contains(&number)
+}
+
 /// The least number above this one.
 pub(crate) fn next_of_many(numbers: &BTreeSet<u64>, number: u64) -> Option<u64>
     ensures { result ≡ find (nat_lt number) numbers.now.keys }

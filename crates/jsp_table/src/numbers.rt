@@ -4,8 +4,8 @@ ghost use Rattle.jsp_table.specs.Numbers.{contains, AreIncreasing};
 ghost use Rattle.jsp_table.specs.Kept.{numbers_in};
 
 use crate::NoMemory;
-use crate::few::{add_to_few, next_of_few, remove_from_few};
-use crate::many::{add_to_many, many_of, next_of_many, remove_from_many};
+use crate::few::{add_to_few, are_few_with, next_of_few, remove_from_few};
+use crate::many::{add_to_many, are_many_with, many_of, next_of_many, remove_from_many};
 use std::alloc::Global;
 use std::collections::BTreeSet;
 use std::marker::Model;
@@ -69,6 +69,16 @@ impl Numbers {
         ensures { result ≡ (length self.now == 0) }
     {
         self.len() == 0
+    }
+
+    /// Whether this is one of them.
+    pub fn contains(&self, number: u64) -> bool
+        ensures { result ≡ contains self.now number }
+    {
+        match &self.kept {
+            Kept::Few(numbers) => are_few_with(numbers, number),
+            Kept::Many(numbers) => are_many_with(numbers, number),
+        }
     }
 
     /// A copy of them.

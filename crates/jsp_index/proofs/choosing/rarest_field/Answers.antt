@@ -5,7 +5,7 @@ use Rattle.jsp_types.specs.declared.class.Class.{Class}
 use Rattle.jsp_types.specs.declared.value.Value.{Value}
 use Rattle.jsp_types.specs.declared.entry.Template.TheVariants.{Like}
 use Rattle.jsp_types.specs.Matching.{is_null}
-use Rattle.jsp_keyed.specs.Words.{field_word_key}
+use Rattle.jsp_keyed.specs.Keys.{field_key}
 use Rattle.jsp_keyed.specs.Finding.{HaveKey}
 use Rattle.jsp_index.specs.Keys.{row_keys}
 use Rattle.jsp_index.specs.Finding.{is_like}
@@ -22,7 +22,7 @@ fields-preserved c =
     let like = c.args.like.now in
     let space = c.args.space in
     let i = c.fields.field-index in
-    let P : (List ℕ × Value) → Type 0 = λ f. (classes : List Class) → HaveKey row_keys (λ seed. field_word_key seed space f.0 f.1) (is_like classes space (Like like)) in
+    let P : (List ℕ × Value) → Type 0 = λ f. (classes : List Class) → HaveKey row_keys (λ seed. field_key seed space f.0 f.1) (is_like classes space (Like like)) in
     elim c.if-not-is_null.branch [
       | then-not-is_null w ↦
           let f = c.field-item.result in

@@ -14,7 +14,7 @@ first_behind-requires-clause-had g c =
     let passed = g.P.Test.is_passed c.args.test.now in
     let u = c.args.scope.now.unseen in
     let had = all_had_or u (own_numbers (option_copied c.args.scope.now.own)) c.args.sought.now.takes c.args.sought.now.transaction passed c.args.self.now c.requires.had c.requires.opens in
-    let none = subst (λ (o : Option (Bor (List ℕ))). AreOpenOr u (own_numbers (option_copied o)) passed c.args.self.now) c.in_default.is had in
+    let none = subst (λ (o : Option (Bor (List ℕ))). AreOpenOr u (own_numbers (option_copied o)) passed c.args.self.now) c.in_default-own.is had in
     subst (λ (w : List Row). AreOpen u passed w) (sym c.self.view_is) (open_alone u passed c.args.self.now none)
 
 pub first_behind-requires-clause-within : goal.first_behind-requires-clause-within

@@ -1,11 +1,20 @@
 use Rattle.std.proofs.Common.{sym, subst}
 use Rattle.jsp_index.specs.declared.starts.Unseen.{Unseen}
-use Rattle.jsp_index.specs.Passed.{may_have, AreOpenOr}
-use Rattle.jsp_index.proofs.Having.{open_or_none}
+use Rattle.jsp_index.specs.declared.starts.Unseen.TheVariants.{Taken}
+use Rattle.jsp_index.specs.Passed.{may_have, AreOpen, AreOpenOr}
+use Rattle.jsp_index.proofs.Having.{had_untaken, open_or_none}
 use Rattle.jsp_index.proofs.hinted.HintedRows.scope.Goals as goal
 
-pub returns-in-None : goal.returns-in-None
-returns-in-None c = open_or_none c.unseen.result (may_have c.args.takes c.args.transaction) c.args.self.now c.unseen.ensures
+pub returns-in-None-clause-opens : goal.returns-in-None-clause-opens
+returns-in-None-clause-opens c =
+    let had = may_have c.args.takes c.args.transaction in
+    open_or_none c.unseen_by_strangers.result had c.args.self.now (subst (λ (u : Unseen). AreOpen u had c.args.self.now) (sym c.unseen_by_strangers.ensures) (c.in-None.ensures.none c.args.takes))
 
-pub returns-in-Some : goal.returns-in-Some
-returns-in-Some c = subst (λ (u : Unseen). AreOpenOr u c.in-Some.own.now (may_have c.args.takes c.args.transaction) c.args.self.now) (sym c.unseen_by_strangers.ensures) (c.in-Some.ensures c.args.takes)
+pub returns-in-Some-clause-opens : goal.returns-in-Some-clause-opens
+returns-in-Some-clause-opens c = subst (λ (u : Unseen). AreOpenOr u c.in-Some.own.now (may_have c.args.takes c.args.transaction) c.args.self.now) (sym c.unseen_by_strangers-in-Some.ensures) (c.in-Some.ensures.some c.args.takes)
+
+pub returns-in-Some-2-clause-opens : goal.returns-in-Some-2-clause-opens
+returns-in-Some-2-clause-opens c = open_or_none Taken (may_have c.args.takes c.args.transaction) c.args.self.now (had_untaken c.args.takes c.args.transaction c.args.self.now)
+
+pub returns-in-Some-2-clause-many : goal.returns-in-Some-2-clause-many
+returns-in-Some-2-clause-many c = c.in-Some.ensures.some c.args.takes

@@ -10,7 +10,7 @@ use Rattle.jsp_index.proofs.keyed.KeyedRows.first_behind.Goals as goal
 
 pub templates-preserved : goal.templates-preserved
 templates-preserved g c =
-    let p = is_next (g.P.Test.is_passed c.args.test.now) c.args.behind.number in
+    let p = is_next (g.P.Test.is_passed c.args.test.now) c.args.behind.now.number in
     let classes = c.args.classes.now in
     let space = c.args.space in
     let templates = c.args.templates.now in
@@ -26,7 +26,7 @@ templates-preserved g c =
 pub returns-clause-found : goal.returns-clause-found
 returns-clause-found g c =
     let passed = g.P.Test.is_passed c.args.test.now in
-    let p = is_next passed c.args.behind.number in
+    let p = is_next passed c.args.behind.now.number in
     let classes = c.args.classes.now in
     let space = c.args.space in
     let templates = c.args.templates.now in

@@ -9,18 +9,18 @@ use Rattle.jsp_index.proofs.keyed.KeyedRows.first_of_class.Goals as goal
 
 pub returns-then-is_empty : goal.returns-then-is_empty
 returns-then-is_empty g c =
-    let p = is_next (g.P.Test.is_passed c.args.test.now) c.args.behind.number in
+    let p = is_next (g.P.Test.is_passed c.args.test.now) c.args.behind.now.number in
     let kind = is_like_and c.args.classes.now c.args.space c.args.like.now c.args.class.now in
     least_unnamed p kind c.listed-listed.result.numbers.now c.args.self.now (sym c.is_empty.ensures ∙ c.if-is_empty.true) (c.listed-listed.ensures kind (class_kept c.args.classes.now c.args.space c.args.like.now c.args.class.now)).named
 
 pub returns-then-is_sub : goal.returns-then-is_sub
 returns-then-is_sub g c =
     let kind = is_like_and c.args.classes.now c.args.space c.args.like.now c.args.class.now in
-    c.first_listed.ensures kind (is_open c.args.behind.unseen) (c.listed-listed.ensures kind (class_kept c.args.classes.now c.args.space c.args.like.now c.args.class.now)) c.requires.had
+    c.first_listed.ensures kind (is_open c.args.behind.now.unseen) (c.listed-listed.ensures kind (class_kept c.args.classes.now c.args.space c.args.like.now c.args.class.now)) c.requires.had
 
 pub returns-else-is_sub : goal.returns-else-is_sub
 returns-else-is_sub g c =
-    let p = is_next (g.P.Test.is_passed c.args.test.now) c.args.behind.number in
+    let p = is_next (g.P.Test.is_passed c.args.test.now) c.args.behind.now.number in
     let classes = c.args.classes.now in
     let class = c.args.class.now in
     let like = c.args.like.now in

@@ -12,7 +12,7 @@ use Rattle.jsp_index.proofs.keyed.KeyedRows.first_of_classes.Goals as goal
 
 pub classes-preserved : goal.classes-preserved
 classes-preserved g c =
-    let p = is_next (g.P.Test.is_passed c.args.test.now) c.args.behind.number in
+    let p = is_next (g.P.Test.is_passed c.args.test.now) c.args.behind.now.number in
     let classes = c.args.classes.now in
     let space = c.args.space in
     let like = c.args.like.now in
@@ -30,7 +30,7 @@ classes-preserved g c =
 
 pub returns : goal.returns
 returns g c =
-    let p = is_next (g.P.Test.is_passed c.args.test.now) c.args.behind.number in
+    let p = is_next (g.P.Test.is_passed c.args.test.now) c.args.behind.now.number in
     let classes = c.args.classes.now in
     let space = c.args.space in
     let like = c.args.like.now in

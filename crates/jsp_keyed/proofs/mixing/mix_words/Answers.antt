@@ -2,9 +2,8 @@ use Rattle.std.proofs.Common.{◌≡◌, ℕ, ◌-◌, ◌<◌, ◌≤◌, lengt
 use Rattle.std.specs.Prelude.{slice_index}
 use Rattle.std.specs.Int.{w64, from_le_bytes}
 use Rattle.std.proofs.lemmas.List.{take_all}
-use Rattle.jsp_keyed.specs.Keys.{mix, mix_all}
-use Rattle.jsp_keyed.specs.Words.{mix_words as words_mixed}
-use Rattle.jsp_keyed.proofs.words.mix_words.Goals as goal
+use Rattle.jsp_keyed.specs.Keys.{mix, mix_all, mix_words as words_mixed}
+use Rattle.jsp_keyed.proofs.mixing.mix_words.Goals as goal
 
 -- the last few are mixed in one by one
 few : (key : ℕ) (bytes : List ℕ) → length bytes < 8 → mix_all key bytes ≡ words_mixed key bytes
