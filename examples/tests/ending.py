@@ -76,7 +76,7 @@ def end_with_few_descriptors(program, descriptors):
 
 
 halt(sys.argv[1:])
-for descriptors in range(5, 10):
+for descriptors in range(6, 11):
     end_with_few_descriptors(sys.argv[1:], descriptors)
 for op, keys in REQUESTS.items():
     for _ in range(ROUNDS):

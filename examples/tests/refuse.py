@@ -20,6 +20,7 @@ sys.path.insert(0, str(TESTS.parent / "clients"))
 from jsp import LONGEST, Client, Refused, entry  # noqa: E402
 
 SECONDS = 60
+AT_ONCE = 2  # seconds, on a machine that does much else
 GROWTHS, THREADS, ACCEPTS, SENDS = 0, 24, 48, 72  # where the control file has the three numbers of each
 REASONS = 7  # why a connection is refused
 MANY = 2**62
@@ -198,29 +199,37 @@ def write_and_take(address):
 
 
 def threads(refusing):
-    """Threads are refused for a while: the door waits for a line's first one, and the line for its second."""
-    for first in range(1, 6):
+    """A connection that gets no thread, or none for what others cause, is closed at once, and the next is served."""
+    server, address = refusing.listen("--until-input")
+    write_and_take(address)
+    for first in (1, 2):
+        for _ in range(5):
+            refusing.refuse(THREADS, first, MANY)
+            began = time.monotonic()
+            assert is_cut(lambda: write_and_take(address)), first
+            assert time.monotonic() - began < AT_ONCE, first
         refusing.refuse(THREADS, 0)
-        server, address = refusing.listen("--until-input")
         write_and_take(address)
-        refusing.refuse(THREADS, first, 3)
-        for _ in range(6):
-            write_and_take(address)
-        assert refusing.count(THREADS) >= first + 3
-        said = server.communicate(b"\n", SECONDS)[1]
-        assert (said, server.returncode) == (b"jsp: compared 7 lines\n", 0), (said, server.returncode)
+    said = server.communicate(b"\n", SECONDS)[1]
+    assert (said, server.returncode) == (b"jsp: compared 13 lines\n", 0), (said, server.returncode)
 
 
 def lonely(refusing):
-    """A line that never gets its second thread ends, and the next is served."""
+    """A server for whose first connection there are no threads doesn't listen, and one that can't settle serves nobody."""
+    words = ["listen", "127.0.0.1:0", "a"]
+    for first in range(1, 4):
+        refusing.refuse(THREADS, first, MANY)
+        told = b"jsp: no threads are left for a connection\n"
+        assert refusing.run(b"", *words) == (b"", told, 1), first
+    refusing.refuse(THREADS, 4, MANY)
+    out, told, status = refusing.run(b"", *words)
+    assert out.startswith(b"listening ") and (told, status) == (b"jsp: cannot serve\n", 1), (out, told, status)
+    # It settles once a thread can be had again. One more is started before, which reads the input.
+    refusing.refuse(THREADS, 5, 3)
     server, address = refusing.listen("--until-input")
     write_and_take(address)
-    refusing.refuse(THREADS, 2, MANY)
-    assert is_cut(lambda: write_and_take(address))
-    refusing.refuse(THREADS, 0)
-    write_and_take(address)
     said = server.communicate(b"\n", SECONDS)[1]
-    assert (said, server.returncode) == (b"jsp: compared 3 lines\n", 0), (said, server.returncode)
+    assert (said, server.returncode) == (b"jsp: compared 1 lines\n", 0), (said, server.returncode)
 
 
 def accepts(refusing):

@@ -155,7 +155,7 @@ impl<
         }
     }
 
-    // Serves a line that has come in.
+    // Serves a line that has come in, or turns it away where its session was shut before.
     fn serve_caller<R: Read + Send + Drop, W: Write + Send + Drop>(
         &self,
         caller: Caller<A, O, R, W, X>,
@@ -167,13 +167,17 @@ impl<
             asks,
             outs,
         } = caller;
-        let done = self
-            .shared
-            .serve_line(reader, writer, &*hangup, asks, outs, READS);
-        self.lines.leave(self.shared.rt, done);
+        let shared = &self.shared;
+        let done = if shared.floor.is_open(shared.rt, asks.session()) {
+            shared.serve_line(reader, writer, &*hangup, asks, outs, READS)
+        } else {
+            shared.turn_away(reader, writer, &*hangup, asks, outs)
+        };
+        self.lines.leave(shared.rt, done);
     }
 
-    // Serves all lines of the door, each in a thread of its own, and settles meanwhile.
+    // Serves all lines of the door, each in a thread of its own, and settles meanwhile. A line for
+    // which there is no thread is turned away at once, as one above those that are served.
     fn serve_all<R: Read + Send + Drop, W: Write + Send + Drop, D: Door<R, W, X>>(
         &self,
         door: &mut D,
@@ -185,21 +189,28 @@ impl<
                 requires { IsSync T.row × IsSync G.row × IsSync C.row × IsSend H.row × IsSend A.row × IsSync A.row × IsSend O.row × IsSync O.row × IsSend R.row × IsSend W.row × IsSend X.row × IsSync X.row }
             {
                 let rt = self.shared.rt;
-                let settling = start(rt, scope, move || self.shared.settle_worker());
+                let Some(settling) = start(rt, scope, move || self.shared.settle_worker()) else {
+                    self.lines.fail(rt, RunFault::Spawn);
+                    return;
+                };
                 for _ in rt.forever() {
                     let caller = match self.receive(door) {
                         Guest::Line(caller) => caller,
                         Guest::Refused => continue,
                         Guest::Ended => break,
                     };
+                    let session = caller.asks.session();
                     // It says at its end what it served, so that nobody joins it.
-                    let _serving = start(
-                        rt,
-                        scope,
+                    let serving = scope.spawn(
                         move ||
                             requires { IsSync T.row × IsSync G.row × IsSync C.row × IsSend H.row × IsSend A.row × IsSync A.row × IsSend O.row × IsSync O.row × IsSend R.row × IsSend W.row × IsSend X.row × IsSync X.row }
                         { self.serve_caller(caller) },
                     );
+                    if let Err(refused) = serving {
+                        self.shared.floor.shut(rt, session);
+                        let turn_away = refused.value;
+                        turn_away();
+                    }
                 }
                 self.lines.wait_for_none(rt);
                 self.shared.floor.end(rt);

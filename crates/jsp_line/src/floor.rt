@@ -355,6 +355,11 @@ impl<H: Backlog, A: Ledger, O: Ledger> Floor<H, A, O> {
         self.signal(session).notify_all();
     }
 
+    /// Whether the session is open.
+    pub fn is_open<T: Wait>(&self, rt: &T, session: u64) -> bool {
+        self.kept.lock(rt).is_open(session)
+    }
+
     /// Whether an era was sealed.
     pub(crate) fn is_sealed<T: Wait>(&self, rt: &T) -> bool {
         self.kept.lock(rt).is_sealed()

@@ -8,11 +8,12 @@ ghost use denote.Param.Send.{IsSync, IsSend};
 
 use crate::counted::Counted;
 use crate::gate::{Clock, Gate};
-use crate::half::{OutDone, OutHalf, Start};
+use crate::half::{Health, OutDone, OutHalf, Start};
 use crate::hangup::Hangup;
 use crate::read::ReadDone;
 use crate::shared::Shared;
-use crate::threads::try_start;
+use crate::transcript::Transcript;
+use jsp_closing::Ended;
 use jsp_kept::{AskSeat, Backlog, OutSeat};
 use jsp_model::Why;
 use std::io::{Read, Write};
@@ -70,13 +71,11 @@ impl<
                 ensures faults { Faults result.1.1.ended 0 result.1.0.failures }
                 ensures bound { result.1.1.ended ≡ Bound → bound ≤ result.1.0.reads }
             {
-                let answering = try_start(
-                    self.rt,
-                    scope,
-                    move || self.answer_all(half, hangup, session),
-                );
+                let answering = scope
+                    .spawn(move || self.answer_all(half, hangup, session))
+                    .ok();
                 if answering.is_none() {
-                    // Nobody would write what others cause to be said to the line, so it ends.
+                    // Nobody would write what others cause to be said to the line: it ends at once.
                     self.floor.shut(self.rt, session);
                     hangup.hang_up();
                 }
@@ -143,5 +142,43 @@ impl<
         ensures writes { Writes (W.contents writer) (W.contents result.out.writer.inner) result.out.seat.count result.out.health result.out.writer.failures result.out.transcript }
     {
         self.serve_from::<R, W, X, Brand>(reader, writer, hangup, asks, outs, bound)
+    }
+
+    /// Turns a line away that can't be served: shuts its session, ends its connection, and reads
+    /// and writes nothing.
+    pub fn turn_away<R: Read, W: Write, X: Hangup>(
+        &self,
+        reader: R,
+        writer: W,
+        hangup: &X,
+        asks: AskSeat<A>,
+        outs: OutSeat<O>,
+    ) -> LineDone<A, O, R, W>
+        requires { IsSeated asks outs }
+        ensures asks { result.read.seat ≡ asks }
+        ensures outs { result.out.seat ≡ outs }
+        ensures reader { (result.reader.inner ≡ reader) × (result.reader.failures ≡ 0) }
+        ensures writer { (result.out.writer.inner ≡ writer) × (result.out.writer.failures ≡ 0) }
+        ensures reads { Reads asks.session (R.remaining reader) (R.remaining result.reader.inner) result.read.transcript result.read.ended 0 result.read.seat.count }
+        ensures writes { Writes (W.contents writer) (W.contents result.out.writer.inner) result.out.seat.count result.out.health result.out.writer.failures result.out.transcript }
+    {
+        self.floor.shut(self.rt, asks.session());
+        hangup.hang_up();
+        LineDone {
+            reader: Counted::new(reader),
+            read: ReadDone {
+                seat: asks,
+                transcript: Transcript::new(self.alloc),
+                ended: Ended::Bound,
+                why: None,
+            },
+            out: OutDone {
+                seat: outs,
+                writer: Counted::new(writer),
+                transcript: Transcript::new(self.alloc),
+                health: Health::Sound,
+            },
+            why: None,
+        }
     }
 }

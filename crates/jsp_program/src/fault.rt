@@ -34,6 +34,10 @@ pub(crate) enum Fault {
     Spawn,
     #[error("cannot show a status in a thread")]
     SpawnShow,
+    #[error("no descriptor is left for a connection: {0}")]
+    NoDescriptor(io::Error),
+    #[error("no threads are left for a connection")]
+    NoThreads,
 }
 
 impl Fault {
@@ -50,7 +54,9 @@ impl Fault {
             | Fault::Serve
             | Fault::Shell(_)
             | Fault::Spawn
-            | Fault::SpawnShow => 1,
+            | Fault::SpawnShow
+            | Fault::NoDescriptor(_)
+            | Fault::NoThreads => 1,
         })
     }
 }

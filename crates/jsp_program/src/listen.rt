@@ -6,6 +6,7 @@ use crate::arguments::{
     UNTIL_INPUT, USUAL_BACKLOG, USUAL_CONNECTIONS, USUAL_ERA, USUAL_ERA_BYTES, VERSION,
 };
 use crate::fault::Fault;
+use crate::room::find_room;
 use crate::standard::open_null_device;
 use clap::ArgMatches;
 use jsp_serve::{Board, Bounds, Closed, Config, Seeds, Service, Stop, serve, show_status};
@@ -108,10 +109,9 @@ impl Server {
     }
 
     /// Says where it listens, and serves. At its end it says on standard error what was compared.
-    pub(crate) fn serve<R: AllocGlobal + Print + Eprint + Clock + Threads + Wait + Sync>(
-        self,
-        rt: &R,
-    ) -> Result<ExitCode, Fault> {
+    pub(crate) fn serve<
+        R: AllocGlobal + Print + Eprint + Clock + Files<File = File> + Threads + Wait + Sync,
+    >(self, rt: &R) -> Result<ExitCode, Fault> {
         let Server {
             listener,
             config,
@@ -121,6 +121,7 @@ impl Server {
             until_input: _,
             window,
         } = self;
+        find_room(rt)?;
         if !has_random_seeds && say_seeds(rt).is_err() {
             return Err(Fault::Write);
         }

@@ -12,6 +12,7 @@ mod arguments;
 mod client;
 mod fault;
 mod listen;
+mod room;
 mod spaces;
 mod standard;
 
@@ -152,7 +153,7 @@ impl Job {
         }
     }
 
-    fn run<R: AllocGlobal + Print + Eprint + Clock + Threads + Wait + Sync>(
+    fn run<R: AllocGlobal + Print + Eprint + Clock + Files<File = File> + Threads + Wait + Sync>(
         self,
         rt: &R,
         streams: Streams,
