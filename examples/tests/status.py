@@ -12,6 +12,7 @@ import socket
 import struct
 import subprocess
 import sys
+import threading
 import time
 from contextlib import contextmanager
 from pathlib import Path
@@ -253,6 +254,56 @@ def bears_bad_connections(status):
         stream.close()
 
 
+def asks_slowly(status):
+    """It sends its request a byte each fifth of a second, until it is closed."""
+    with socket.create_connection(status, SECONDS) as stream:
+        try:
+            for byte in ASKS:
+                stream.sendall(bytes((byte,)))
+                time.sleep(0.2)
+        except ConnectionError:
+            pass
+
+
+def deaf(status):
+    """A connection that asks for more than fits into it, and reads nothing."""
+    stream = socket.socket()
+    stream.setsockopt(socket.SOL_SOCKET, socket.SO_RCVBUF, 2048)
+    stream.settimeout(SECONDS)
+    stream.connect(status)
+    stream.sendall(ASKS * 50)
+    return stream
+
+
+def waits_for_nobody(status):
+    """Sixty that say nothing, five that ask slowly, and sixty that read nothing: who asks beside them is answered."""
+
+    def is_served_at_once(among):
+        began = time.monotonic()
+        assert received(status, ASKS).startswith(b"HTTP/1.1 200 "), among
+        assert time.monotonic() - began < 1, (among, time.monotonic() - began)
+
+    silent = [socket.create_connection(status, SECONDS) for _ in range(60)]
+    is_served_at_once("silent")
+    began = time.monotonic()
+    for stream in silent:
+        assert rest(stream) == b""
+        stream.close()
+    assert time.monotonic() - began < 2  # they were given up side by side
+    slow = [threading.Thread(target=asks_slowly, args=(status,)) for _ in range(5)]
+    for thread in slow:
+        thread.start()
+    time.sleep(0.1)
+    for _ in range(3):
+        is_served_at_once("slow")
+    for thread in slow:
+        thread.join()
+    streams = [deaf(status) for _ in range(60)]
+    is_served_at_once("deaf")
+    for stream in streams:
+        stream.close()
+
+
 def shows_what_was_asked(program):
     began = time.monotonic()
     with serving(program) as (server, address, status):
@@ -264,6 +315,7 @@ def shows_what_was_asked(program):
             is_shown(status, ASKED, least, began)
             speaks_http(status)
             bears_bad_connections(status)
+            waits_for_nobody(status)
             # None of these was a connection, a request or an answer of the server's.
             is_shown(status, ASKED, least, began)
             # The end waits for nobody who looks at the status.

@@ -24,6 +24,7 @@ mod server;
 mod show;
 mod stop;
 mod streams;
+mod visit;
 mod writing;
 
 pub use board::Board;

@@ -1,10 +1,10 @@
 //! A server's status, over HTTP.
 use crate::board::Board;
-use jsp_status::{Status, serve};
+use crate::visit::Visit;
+use jsp_status::Status;
 use std::alloc::Global;
-use std::hash::RandomState;
-use std::io::{self, ErrorKind, Read};
-use std::net::{TcpListener, TcpStream};
+use std::io::ErrorKind;
+use std::net::TcpListener;
 use std::random::RandomSource;
 use std::sync::Wait;
 use std::thread;
@@ -13,37 +13,79 @@ use std::time::{Clock, Duration, Instant};
 /// After how many milliseconds the status is asked for anew.
 const FRESH: u64 = 1000;
 
-/// How long, in milliseconds, a connection may say nothing, and how many reads there may be. A browser opens connections
-/// on which it never asks, and the others wait meanwhile.
-const SILENCE: u64 = 250;
+/// How many connections are open at once. Those above them wait until one of these is closed.
+const MOST: usize = 64;
 
-const READS: u32 = 16;
-
-/// How long, in milliseconds, a write may take.
-const PATIENCE: u64 = 1000;
+/// After how many milliseconds open connections are looked at again.
+const LOOK: u64 = 5;
 
 /// After how many milliseconds a connection is asked for again where there was none.
 const PAUSE: u64 = 50;
 
-/// Shows a server's status to all who connect, one after another.
+/// Shows a server's status to all who connect. Who says nothing, or is slow, holds up nobody else.
 pub fn show_status<T: Wait + Clock + RandomSource>(
     rt: &T,
     alloc: Global,
     listener: &TcpListener,
     board: &Board,
 ) {
-    let mut last: Option<Seen> = None;
+    let mut visits = Vec::new(alloc);
+    let mut last = None;
     for _ in rt.forever() {
-        let Ok((stream, _)) = listener.accept() else {
-            thread::sleep(rt, Duration::from_millis(PAUSE));
-            continue;
-        };
-        last = refreshed(rt, board, last);
-        if let Some(seen) = &last {
-            // Who breaks off, or is slow, is told nothing more.
-            let _ = answer(rt, alloc, &stream, &seen.status);
+        let_in(rt, alloc, listener, &mut visits);
+        for visit in visits.iter_mut() {
+            last = look_at(rt, alloc, board, visit, last);
+        }
+        visits.retain(|visit| !visit.is_over());
+        if !visits.is_empty() {
+            thread::sleep(rt, Duration::from_millis(LOOK));
         }
     }
+}
+
+/// Lets in those who have connected, as many as may be at once. Where nobody is there it waits for
+/// one.
+fn let_in<T: Clock>(rt: &T, alloc: Global, listener: &TcpListener, visits: &mut Vec<Visit>) {
+    for _ in visits.len()..MOST {
+        let waits = visits.is_empty();
+        if listener.set_nonblocking(!waits).is_err() {
+            break;
+        }
+        match listener.accept() {
+            Ok((stream, _)) => {
+                if let Ok(visit) = Visit::new(rt, alloc, stream) {
+                    // Where there is no memory for it, it is closed.
+                    let _ = visits.push(visit);
+                }
+            }
+            Err(error) if error.kind() == ErrorKind::WouldBlock => break,
+            Err(_) => {
+                thread::sleep(rt, Duration::from_millis(PAUSE));
+                break;
+            }
+        }
+    }
+}
+
+/// Looks whether one of those who are there has something to be answered, and answers it. What it
+/// was shown is the last status then.
+fn look_at<T: Wait + Clock + RandomSource>(
+    rt: &T,
+    alloc: Global,
+    board: &Board,
+    visit: &mut Visit,
+    last: Option<Seen>,
+) -> Option<Seen> {
+    let mut last = last;
+    if visit.listen() {
+        last = refreshed(rt, board, last);
+        match &last {
+            Some(seen) => visit.answer(rt, alloc, &seen.status),
+            None => visit.give_up(),
+        }
+    }
+    visit.go_on(rt);
+    last
 }
 
 /// A status, and when it came.
@@ -73,45 +115,5 @@ fn refreshed<T: Wait + Clock>(rt: &T, board: &Board, last: Option<Seen>) -> Opti
                 at: Instant::now(rt).ok(),
             })
         }
-    }
-}
-
-fn answer<T: RandomSource>(
-    rt: &T,
-    alloc: Global,
-    stream: &TcpStream,
-    status: &Status,
-) -> io::Result<()> {
-    stream.set_read_timeout(Some(Duration::from_millis(SILENCE)))?;
-    stream.set_write_timeout(Some(Duration::from_millis(PATIENCE)))?;
-    let mut reader = Patient {
-        stream,
-        left: READS,
-    };
-    let mut writer = stream;
-    serve(
-        alloc,
-        RandomState::new(rt)?,
-        status,
-        &mut reader,
-        &mut writer,
-    )
-}
-
-/// What a connection asks, in so many reads.
-#[derive(Drop)]
-struct Patient<'a> {
-    stream: &'a TcpStream,
-    left: u32,
-}
-
-impl Read for Patient<'_> {
-    fn read(&mut self, bytes: &mut [u8]) -> io::Result<usize> {
-        if self.left == 0 {
-            return Err(ErrorKind::TimedOut.into());
-        }
-        self.left -= 1;
-        let mut stream = self.stream;
-        stream.read(bytes)
     }
 }

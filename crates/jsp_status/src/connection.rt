@@ -13,7 +13,7 @@ use std::io;
 use std::io::{ErrorKind, Read, Write};
 
 /// A request for the status is short, and has no body.
-const LIMITS: Config = Config {
+pub(crate) const LIMITS: Config = Config {
     limits: Limits {
         max_head_len: 16 * 1024,
         max_extensions_len: 16,

@@ -1,4 +1,4 @@
-use crate::{RefusalCount, SpaceStatus, Status, serve, to_json, to_page};
+use crate::{RefusalCount, SpaceStatus, Status, answer_so_far, serve, to_json, to_page};
 use std::alloc::{AllocError, Global};
 use std::hash::RandomState;
 use std::test::Fail;
@@ -109,5 +109,40 @@ fn responses(rt: HostRuntime) -> Result<(), Fail> {
         assert!(rt; said.starts_with(first), "{said}");
         assert!(rt; said.ends_with(last), "{said}");
     }
+    Ok(())
+}
+
+// What is answered at each beginning of this request: nothing before its end, and then the page;
+// and where it is all that comes, a refusal before its end.
+#[test]
+fn answers_so_far(rt: HostRuntime) -> Result<(), Fail> {
+    let alloc = rt.alloc();
+    let status = sample(alloc)?;
+    let asked = b"GET / HTTP/1.1\r\nHost: h\r\n\r\n".as_slice();
+    for length in 0..=asked.len() {
+        let said = &asked[..length];
+        let is_whole = length == asked.len();
+        let answer = answer_so_far(alloc, RandomState::new(&rt)?, &status, said, false)?;
+        match answer {
+            Some(answer) => assert!(rt; is_whole && answer.starts_with(b"HTTP/1.1 200 OK\r\n")),
+            None => assert!(rt; !is_whole),
+        }
+        let answer = answer_so_far(alloc, RandomState::new(&rt)?, &status, said, true)?;
+        let Some(answer) = answer else {
+            return Err(Fail::new("no answer"));
+        };
+        assert!(rt;
+            answer.starts_with(b"HTTP/1.1 200 OK\r\n") == is_whole,
+            "{length}"
+        );
+    }
+    let answer = answer_so_far(
+        alloc,
+        RandomState::new(&rt)?,
+        &status,
+        b"what is there?\r\n\r\n",
+        false,
+    )?;
+    assert!(rt; answer.is_some_and(|answer| answer.starts_with(b"HTTP/1.1 400 Bad Request\r\n")));
     Ok(())
 }
