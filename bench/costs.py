@@ -112,6 +112,8 @@ def measure(program, rounds, before, after, count, *flags):
 
 
 STANDING = (100, 1_000, 10_000, 60_000)
+# Match sets, and pages of each. There are as many as what stands takes time, or its noise is all that is measured.
+SETS, PAGES = 128, 60
 MANY, COMMITS, TRANSFERS, HOLDERS = 20_000, 2_000, 5_000, 500
 
 
@@ -319,17 +321,17 @@ def it_reads_again(count):
 
 
 def open_sets(script, txn=None):
-    """The script with eight match sets."""
+    """The script with match sets."""
     under = f',"txn":{txn}' if txn else ""
     script.send('{"op":"hello","version":2}')
-    for _ in range(8):
+    for _ in range(SETS):
         script.grant(f'{{"op":"contents","space":"a","template":{{"class":"Job","fields":{{}}}},"lease":{HOUR}{under}}}')
     return script
 
 
 def turn_pages(script):
-    for _ in range(60):
-        for number in range(8):
+    for _ in range(PAGES):
+        for number in range(SETS):
             script.send(f'{{"op":"next","set":{script.number - number},"most":16}}')
     return script
 
@@ -418,10 +420,10 @@ def rows():
     yield "a read of what the transaction has read, beside entries that have one of its two values", (
         1_000, 10_000, 30_000
     ), before_it_reads, it_reads_again, TRANSFERS
-    yield "a page of sixteen", (1_000, 10_000, 60_000), opened, pages, 480
+    yield "a page of sixteen", (1_000, 10_000, 60_000), opened, pages, SETS * PAGES
     yield "a page of sixteen, under a transaction that holds 64 entries of another space", (
         1_000, 10_000, 60_000
-    ), opened_by_holder, pages_of_holder, 480
+    ), opened_by_holder, pages_of_holder, SETS * PAGES
     yield "sixteen taken at once and an abort, under a transaction that holds 64 entries of another space", (
         1_000, 10_000, 60_000
     ), holders(0), holders(16), HOLDERS
