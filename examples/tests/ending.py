@@ -75,7 +75,32 @@ def end_with_few_descriptors(program, descriptors):
     assert server.returncode == 0 and told.startswith(b"jsp: compared "), (descriptors, server.returncode, told)
 
 
+def end_beside_who_reads_nothing(program):
+    """A client has more answers unread than its connection holds, and another has more events unread: the server ends
+    after two seconds all the same. A third hears what it asked for, and the server says who didn't."""
+    server, host, port = listen(program, "--backlog", "100000")
+    with Client(host, port) as deaf, Client(host, port) as told_nothing, Client(host, port) as jsp:
+        for client in deaf, told_nothing, jsp:
+            client.declare("Job", who="text")
+        told_nothing.notify("a", entry("Job"), lease=3_600_000, handback="x" * 200)
+        jsp.write("a", entry("Job", who="x" * 8_000), lease=3_600_000)
+        deaf.socket.settimeout(1)
+        try:
+            for _ in range(5_000):
+                deaf.send("read", space="a", template=None, timeout=0)
+        except TimeoutError:
+            pass
+        for _ in range(600):
+            jsp.write_all("a", [entry("Job", who="y")] * 32, lease=1_000)
+        began = time.monotonic()
+        told = server.communicate(b"\n", timeout=60)[1]
+        took = time.monotonic() - began
+    assert server.returncode == 0 and took < 10, (server.returncode, took)
+    assert told == b"jsp: compared 3 lines\njsp: cut short: session 1, 2\n", told
+
+
 halt(sys.argv[1:])
+end_beside_who_reads_nothing(sys.argv[1:])
 for descriptors in range(6, 11):
     end_with_few_descriptors(sys.argv[1:], descriptors)
 for op, keys in REQUESTS.items():

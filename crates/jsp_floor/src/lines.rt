@@ -8,6 +8,13 @@ use std::alloc::Global;
 use std::io::{Read, Write};
 use std::sync::ledger::Ledger;
 use std::sync::{Arc, Condvar, Mutex, Wait};
+use std::time::{Clock, Duration};
+
+/// How often it is looked whether lines have ended that are to end, and after how many milliseconds each:
+/// for two seconds.
+const LOOKS: u32 = 40;
+
+const PAUSE: u64 = 50;
 
 // A line that is being served.
 #[derive(Drop)]
@@ -78,15 +85,28 @@ impl<X: Hangup + Drop> Lines<X> {
         }
     }
 
-    /// Shuts the sessions of all lines that are served, so that these end.
-    pub(crate) fn shut_all<H: Backlog, A: Ledger, O: Ledger, T: Wait>(
+    /// Shuts the sessions of all lines that are served, so that these end, and ends the connections of those
+    /// that haven't ended after two seconds: a client that reads nothing would hold them up for ever.
+    pub(crate) fn end_all<H: Backlog, A: Ledger, O: Ledger, T: Wait + Clock>(
         &self,
         rt: &T,
         floor: &Floor<H, A, O>,
     ) {
-        let progress = self.progress.lock(rt);
+        let mut progress = self.progress.lock(rt);
         for line in progress.lines.as_slice() {
             floor.shut(rt, line.session);
+        }
+        for _ in 0..LOOKS {
+            if progress.lines.is_empty() {
+                return;
+            }
+            let (locked, _timed_out) = self
+                .none
+                .wait_timeout(rt, progress, Duration::from_millis(PAUSE));
+            progress = locked;
+        }
+        for line in progress.lines.as_slice() {
+            line.hangup.hang_up();
         }
     }
 

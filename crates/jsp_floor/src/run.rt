@@ -145,7 +145,7 @@ impl<
             Knock::Line(reader, writer, hangup) => self.welcome(reader, writer, hangup),
             Knock::Closed => Guest::Ended,
             Knock::Stopped => {
-                self.lines.shut_all(self.shared.rt, self.shared.floor);
+                self.lines.end_all(self.shared.rt, self.shared.floor);
                 Guest::Ended
             }
             Knock::Failed => {

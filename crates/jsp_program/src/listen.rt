@@ -9,7 +9,9 @@ use crate::fault::Fault;
 use crate::room::find_room;
 use crate::standard::open_null_device;
 use clap::ArgMatches;
-use jsp_serve::{Board, Bounds, Closed, Config, Seeds, Service, Stop, serve, show_status};
+use jsp_serve::{
+    Board, Bounds, Closed, Config, LineReport, Seeds, Service, Stop, serve, show_status,
+};
 use std::fs::{File, Files};
 use std::io::{self, ErrorKind, Read, Stdin, Write};
 use std::net::{Net, SocketAddr, TcpListener, TcpStream};
@@ -21,6 +23,9 @@ use std::time::{Clock, Duration};
 
 /// After how many milliseconds the connection that ends a server is tried again.
 const PAUSE: u64 = 50;
+
+/// How many sessions are named at most.
+const NAMED: usize = 16;
 
 /// A server that listens.
 #[derive(Drop)]
@@ -254,10 +259,39 @@ fn say_where(rt: &impl Print, listener: &TcpListener, window: &Option<Window>) -
     io::writer(rt).flush()
 }
 
-/// Says what of the history was compared with what the lines read and wrote.
+/// Says what of the history was compared with what the lines read and wrote, and to whom not all was
+/// written.
 fn say_compared(rt: &impl Eprint, closed: &Closed) -> io::Result<()> {
     match closed {
-        Closed::Whole { lines, .. } => eprintln!(rt; "jsp: compared {} lines", lines.len()),
+        Closed::Whole { lines, .. } => {
+            eprintln!(rt; "jsp: compared {} lines", lines.len())?;
+            say_cut(rt, lines.as_slice())
+        }
         Closed::Sealed { .. } => eprintln!(rt; "jsp: not compared: an era was sealed"),
     }
+}
+
+/// Names the sessions whose answers were cut short: their clients broke off, or didn't read.
+fn say_cut(rt: &impl Eprint, lines: &[LineReport]) -> io::Result<()> {
+    let mut count = 0;
+    for line in lines {
+        if line.write_failed {
+            if count < NAMED {
+                let before = if count == 0 {
+                    "jsp: cut short: session"
+                } else {
+                    ","
+                };
+                eprint!(rt; "{before} {}", line.session)?;
+            }
+            count += 1;
+        }
+    }
+    if count > NAMED {
+        eprint!(rt; " and {} more", count - NAMED)?;
+    }
+    if count > 0 {
+        eprintln!(rt; "")?;
+    }
+    Ok(())
 }

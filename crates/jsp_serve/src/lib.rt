@@ -28,7 +28,7 @@ mod visit;
 mod writing;
 
 pub use board::Board;
-pub use jsp_floor::{Bounds, Closed, RunFault};
+pub use jsp_floor::{Bounds, Closed, LineReport, RunFault};
 pub use jsp_model::Config;
 pub use run::{Ending, Options, Status, script};
 pub use seeds::Seeds;
