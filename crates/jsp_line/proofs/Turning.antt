@@ -4,7 +4,7 @@ use Rattle.std.specs.Prelude.{Bool, Option, Some, None, IfSome}
 use Rattle.std.proofs.KnownBytes.{Consumes-trans, Consumes-nil}
 use Rattle.jsp_model.specs.declared.step.Step.{Step}
 use Rattle.jsp_wire.specs.declared.ask.Version.TheVariants as version
-use Rattle.jsp_drive.specs.Line.{Unheard, IsOutOfMemory}
+use Rattle.jsp_drive.specs.Line.{Unheard, start as begin, IsOutOfMemory}
 use Rattle.jsp_drive.specs.Giving.{Gave, GaveAll, FeedsStream}
 use Rattle.jsp_drive.proofs.Splitting.{SplitsInto-nil, SplitsInto-append}
 use Rattle.jsp_line.specs.declared.transcript.Transcript.{Transcript}
@@ -15,6 +15,10 @@ use Rattle.jsp_line.specs.Reading.{Counts, is_closing, is_acted, Reads}
 use Rattle.jsp_line.specs.Turns.{GoesOn, ReadsOn, ReadsPiece, ActsOne, ActsMore, ActsAll, FaultsOn}
 
 -- ---- the line
+
+-- before the first byte a line gave nothing
+gave_start : (s : ℕ) → Gave s [] [] begin
+gave_start s = record { payloads = []; rest = []; too_long = false; split = SplitsInto-nil version.One []; asked_is = refl; stands = (refl, refl, refl) }
 
 -- out of memory, a line still gave what it gave
 pub gave_stopped : (s : ℕ) (stream : List ℕ) (asked : List Step) (old new : Unheard) → IsOutOfMemory new → Gave s stream asked old → Gave s stream asked new
@@ -166,6 +170,10 @@ ends_bound s start left transcript line n m on = record {
   closing = λ e. absurd (cc (e));
   at_end = λ e. absurd (cc (e));
 }
+
+-- no turn was taken, and nothing was read
+pub reads_nothing : (s : ℕ) (left : Option (List ℕ)) (transcript : Transcript) → IsTranscript transcript [] → Reads s left left transcript Bound 0 0
+reads_nothing s left transcript kept = ends_bound s left left transcript begin 0 0 (goes_start s left transcript begin 0 kept (gave_start s))
 
 -- ---- the acts of a piece
 

@@ -90,3 +90,8 @@ half_done start now count failures health pile transcript was empty = record {
   kept = was.kept;
   told = was.told;
 }
+
+-- nothing was taken and written
+pub writes_nothing : (start : Option (List ℕ)) (count : ℕ) (transcript : Transcript) → count ≡ 0 → IsTranscript transcript [] → Writes start start count Sound 0 transcript
+writes_nothing start count transcript none kept =
+    half_done start start count 0 Sound [] transcript (half_start start start count 0 Sound [] transcript none refl refl refl kept) (λ e. refl)
