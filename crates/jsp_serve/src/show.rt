@@ -48,10 +48,10 @@ pub fn show_status<T: Wait + Clock + RandomSource>(
 fn let_in<T: Clock>(rt: &T, alloc: Global, listener: &TcpListener, visits: &mut Vec<Visit>) {
     for _ in visits.len()..MOST {
         let waits = visits.is_empty();
-        if listener.set_nonblocking(!waits).is_err() {
-            break;
-        }
-        match listener.accept() {
+        let accepted = listener
+            .set_nonblocking(!waits)
+            .and_then(|()| listener.accept());
+        match accepted {
             Ok((stream, _)) => {
                 if let Ok(visit) = Visit::new(rt, alloc, stream) {
                     // Where there is no memory for it, it is closed.
@@ -67,8 +67,8 @@ fn let_in<T: Clock>(rt: &T, alloc: Global, listener: &TcpListener, visits: &mut 
     }
 }
 
-/// Looks whether one of those who are there has something to be answered, and answers it. What it
-/// was shown is the last status then.
+/// Looks whether a connection has asked, and answers it with the last status, or with a new one where
+/// that is old. The status that was taken last is given back.
 fn look_at<T: Wait + Clock + RandomSource>(
     rt: &T,
     alloc: Global,
