@@ -99,7 +99,17 @@ def end_beside_who_reads_nothing(program):
     assert told == b"jsp: compared 3 lines\njsp: cut short: session 1, 2\n", told
 
 
+def end_once_no_more_come(program):
+    """A server that takes no more connections ends at a line too, and so does that of a client that goes on."""
+    server, host, port = listen(program, "--lines", "1")
+    with Client(host, port) as jsp:
+        jsp.declare("Job", k="int")
+        told = server.communicate(b"\n", timeout=20)[1]
+    assert (server.returncode, told) == (0, b"jsp: compared 1 lines\n"), (server.returncode, told)
+
+
 halt(sys.argv[1:])
+end_once_no_more_come(sys.argv[1:])
 end_beside_who_reads_nothing(sys.argv[1:])
 for descriptors in range(6, 11):
     end_with_few_descriptors(sys.argv[1:], descriptors)

@@ -112,6 +112,10 @@ impl<'a> Door<Incoming<'a>, Outgoing<'a>, Connected> for OneLine<'a> {
             None => Knock::Closed,
         }
     }
+
+    fn is_stopped(&self) -> bool {
+        false
+    }
 }
 
 /// Holds nobody, counts nothing, and reads no time.

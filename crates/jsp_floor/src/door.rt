@@ -7,8 +7,6 @@ pub enum Knock<R, W, X> {
     Line(R, W, X),
     /// No further line comes.
     Closed,
-    /// No further line comes, and those that are served are to end.
-    Stopped,
     /// No line can be had.
     Failed,
 }
@@ -16,4 +14,8 @@ pub enum Knock<R, W, X> {
 /// Where lines come from. It waits until one has come.
 pub trait Door<R, W, X> {
     fn next(&mut self) -> Knock<R, W, X>;
+
+    /// Whether the lines that are served are to end. It is asked from time to time once no further one
+    /// comes.
+    fn is_stopped(&self) -> bool;
 }

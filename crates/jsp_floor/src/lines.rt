@@ -141,6 +141,18 @@ impl<X: Hangup + Drop> Lines<X> {
         }
     }
 
+    /// Waits for a moment, unless no line is served, and says whether none is.
+    pub(crate) fn is_none_soon<T: Wait + Clock>(&self, rt: &T) -> bool {
+        let progress = self.progress.lock(rt);
+        if progress.lines.is_empty() {
+            return true;
+        }
+        let (progress, _timed_out) = self
+            .none
+            .wait_timeout(rt, progress, Duration::from_millis(PAUSE));
+        progress.lines.is_empty()
+    }
+
     /// What all lines answered, once all threads have ended.
     pub(crate) fn into_served(self) -> Served {
         let Lines {

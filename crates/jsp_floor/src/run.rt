@@ -144,15 +144,27 @@ impl<
         match door.next() {
             Knock::Line(reader, writer, hangup) => self.welcome(reader, writer, hangup),
             Knock::Closed => Guest::Ended,
-            Knock::Stopped => {
-                self.lines.end_all(self.shared.rt, self.shared.floor);
-                Guest::Ended
-            }
             Knock::Failed => {
                 self.lines.fail(self.shared.rt, RunFault::Spawn);
                 Guest::Ended
             }
         }
+    }
+
+    // Waits until no line is served any more. Once the door is stopped those that are served are to
+    // end.
+    fn wait_for_lines<R, W, D: Door<R, W, X>>(&self, door: &D) {
+        let rt = self.shared.rt;
+        for _ in rt.forever() {
+            if door.is_stopped() {
+                self.lines.end_all(rt, self.shared.floor);
+                break;
+            }
+            if self.lines.is_none_soon(rt) {
+                break;
+            }
+        }
+        self.lines.wait_for_none(rt);
     }
 
     // Serves a line that has come in, or turns it away where its session was shut before.
@@ -212,7 +224,7 @@ impl<
                         turn_away();
                     }
                 }
-                self.lines.wait_for_none(rt);
+                self.wait_for_lines(&*door);
                 self.shared.floor.end(rt);
                 self.lines.stop(rt, settling.join(rt));
             },

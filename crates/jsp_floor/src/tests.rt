@@ -217,6 +217,10 @@ impl<'w, 'a, T> Door<Incoming<'w, 'a, T>, Outgoing<'w, 'a, T>, Connected> for Li
             None => Knock::Closed,
         }
     }
+
+    fn is_stopped(&self) -> bool {
+        false
+    }
 }
 
 // What a line sends, and what it is to be sent.

@@ -71,7 +71,7 @@ impl<T: Clock> Door<Incoming, Outgoing, Connection> for Connections<'_, T> {
             }
             let accepted = self.listener.accept();
             if self.stop.is_asked() {
-                return Knock::Stopped;
+                return Knock::Closed;
             }
             match accepted {
                 Ok((stream, _)) => {
@@ -88,6 +88,10 @@ impl<T: Clock> Door<Incoming, Outgoing, Connection> for Connections<'_, T> {
             }
         }
         Knock::Closed
+    }
+
+    fn is_stopped(&self) -> bool {
+        self.stop.is_asked()
     }
 }
 

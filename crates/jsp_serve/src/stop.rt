@@ -15,7 +15,8 @@ impl Stop {
         }
     }
 
-    /// Asks for the end. The server sees it when its next connection comes, which may be one that is made for that.
+    /// Asks for the end. The server sees it when its next connection comes, which may be one that is made
+    /// for that, or by itself where it takes no more.
     pub fn ask(&self) {
         self.is_asked.store(true, Ordering::SeqCst);
     }
