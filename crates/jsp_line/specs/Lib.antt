@@ -1,4 +1,5 @@
 pub mod Bytes
+pub mod Slots
 pub mod Seats
 pub mod Halves
 pub mod Reading

@@ -1,8 +1,10 @@
 //! What is taken is written; and the second thread of a line.
+use crate::floor::Call;
 use crate::gate::Gate;
 use crate::half::{Health, OutHalf, Sent, Start};
 use crate::hangup::Hangup;
 use crate::shared::Shared;
+use crate::slot::Slot;
 use jsp_kept::Backlog;
 use jsp_model::Why;
 use std::io::Write;
@@ -53,22 +55,31 @@ impl<H: Backlog, A: Ledger, O: Ledger, G: Gate, C, T: Wait + Clock> Shared<'_, H
     }
 
     /// Writes what others' acts cause for the line, until its session is closed and nothing waits. Then the
-    /// connection is ended: whatever closed the session, nobody waits for more at either end.
+    /// connection is ended: whatever closed the session, nobody waits for more at either end. At the
+    /// first seal what the line keeps is dropped.
     pub(crate) fn answer_all<W: Write, S: Start, X: Hangup>(
         &self,
         half: &Mutex<OutHalf<O, W, S>>,
         hangup: &X,
+        slot: Option<&Slot>,
         session: u64,
     ) -> Option<Why> {
         let mut stopped = None;
+        let mut is_told = false;
         for _ in self.rt.forever() {
-            let is_open = self.floor.wait_for(self.rt, session);
+            let call = self.floor.wait_for(self.rt, session, is_told);
+            if call == Call::Sealed {
+                is_told = true;
+                if let Some(slot) = slot {
+                    slot.clear();
+                }
+            }
             if let Err(why) = self.drain(half, session) {
                 self.floor.shut(self.rt, session);
                 stopped = Some(why);
                 break;
             }
-            if !is_open {
+            if call == Call::Closed {
                 break;
             }
         }

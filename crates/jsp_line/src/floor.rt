@@ -48,11 +48,24 @@ pub struct Floor<H: Backlog, A: Ledger, O: Ledger> {
     most_waiting: u64,
     /// Whether all lines have ended. It is set under the lock.
     ended: AtomicBool,
+    /// Whether an era is known to be sealed, and lines keep no bytes. It is set under the lock.
+    is_sealed: AtomicBool,
     /// How many refusals of each number were taken: the number is the place. They are set under the lock.
     refusals: Vec<AtomicU64>,
     /// How many spaces there are.
     spaces: usize,
     ghost some_lines: { 0 < vec_len lines },
+}
+
+/// Why the second thread of a line is woken.
+#[derive(Clone, Copy, Debug, PartialEq, Eq)]
+pub(crate) enum Call {
+    /// Something waits for its session.
+    Answers,
+    /// An era was sealed.
+    Sealed,
+    /// Its session is closed.
+    Closed,
 }
 
 /// What one hold of the lock gave a line that asked.
@@ -161,6 +174,7 @@ impl<H: Backlog, A: Ledger, O: Ledger> Floor<H, A, O> {
             most_bytes,
             most_waiting,
             ended: AtomicBool::new(false),
+            is_sealed: AtomicBool::new(false),
             refusals: zeros(alloc)?,
             spaces,
         })
@@ -333,15 +347,19 @@ impl<H: Backlog, A: Ledger, O: Ledger> Floor<H, A, O> {
         (said, kept.is_sealed())
     }
 
-    /// Waits until something waits for the session, and says so; or until it is closed, and says no.
-    pub(crate) fn wait_for<T: Wait>(&self, rt: &T, session: u64) -> bool {
+    /// Waits until something waits for the session, or it is closed, or an era was sealed, where
+    /// its line wasn't told of one.
+    pub(crate) fn wait_for<T: Wait>(&self, rt: &T, session: u64, is_told: bool) -> Call {
         let mut kept = self.kept.lock(rt);
         for _ in rt.forever() {
             if !kept.is_open(session) {
-                return false;
+                return Call::Closed;
+            }
+            if self.is_sealed.load(Ordering::SeqCst) && !is_told {
+                return Call::Sealed;
             }
             if kept.next_waiting(session.saturating_sub(1)) == Some(session) {
-                return true;
+                return Call::Answers;
             }
             kept = self.signal(session).wait(rt, kept);
         }
@@ -360,9 +378,27 @@ impl<H: Backlog, A: Ledger, O: Ledger> Floor<H, A, O> {
         self.kept.lock(rt).is_open(session)
     }
 
-    /// Whether an era was sealed.
-    pub(crate) fn is_sealed<T: Wait>(&self, rt: &T) -> bool {
-        self.kept.lock(rt).is_sealed()
+    /// Whether an era is known to be sealed, and lines keep no bytes.
+    pub(crate) fn is_sealed(&self) -> &AtomicBool {
+        &self.is_sealed
+    }
+
+    /// Wakes all lines where an era was sealed for the first time, so that also those at rest drop
+    /// what they keep. No lock is held for that.
+    pub(crate) fn tell_of_seal<T: Wait>(&self, rt: &T) {
+        if self.is_sealed.load(Ordering::SeqCst) || !self.sees_seal(rt) {
+            return;
+        }
+        for signal in self.lines.as_slice() {
+            signal.notify_all();
+        }
+    }
+
+    // Whether an era was sealed, which is known from then on.
+    fn sees_seal<T: Wait>(&self, rt: &T) -> bool {
+        let kept = self.kept.lock(rt);
+        self.is_sealed.store(kept.is_sealed(), Ordering::SeqCst);
+        kept.is_sealed()
     }
 
     /// A settle turn, after this reading of the clock, where it is a later one. All lines that have answers
@@ -414,6 +450,7 @@ impl<H: Backlog, A: Ledger, O: Ledger> Floor<H, A, O> {
             most_bytes: _,
             most_waiting: _,
             ended: _,
+            is_sealed: _,
             refusals: _,
             spaces: _,
         } = self;

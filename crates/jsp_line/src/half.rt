@@ -102,7 +102,6 @@ pub(crate) struct Acted {
     received: Result<bool, Stopped>,
     /// Whether the session was open after it.
     pub(crate) is_open: bool,
-    pub(crate) is_sealed: bool,
     /// Whether a transaction votes, whose turns are to be taken.
     pub(crate) is_voting: bool,
     /// A session that was shut, since its client reads no answers.
@@ -360,7 +359,6 @@ impl<O: Ledger, W: Write, S: Start> OutHalf<O, W, S> {
             result: acted,
             received,
             is_open,
-            is_sealed,
             is_voting,
             shut,
         }

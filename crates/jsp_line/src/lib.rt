@@ -16,8 +16,10 @@ mod half;
 mod hangup;
 mod line;
 mod read;
+mod resting;
 mod settle;
 mod shared;
+mod slot;
 mod threads;
 mod transcript;
 

@@ -12,10 +12,12 @@ use crate::half::{Health, OutDone, OutHalf, Start};
 use crate::hangup::Hangup;
 use crate::read::ReadDone;
 use crate::shared::Shared;
+use crate::slot::{Owner, Slot};
 use crate::transcript::Transcript;
 use jsp_closing::Ended;
 use jsp_kept::{AskSeat, Backlog, OutSeat};
 use jsp_model::Why;
+use jsp_types::NoMemory;
 use std::io::{Read, Write};
 use std::marker::Brand;
 use std::sync::ledger::Ledger;
@@ -50,6 +52,8 @@ impl<
     >(
         &self,
         half: &Mutex<OutHalf<O, W, S>>,
+        slot: Option<&Slot>,
+        owner: Option<Owner<'_>>,
         reader: R,
         hangup: &X,
         asks: AskSeat<A>,
@@ -72,14 +76,14 @@ impl<
                 ensures bound { result.1.1.ended ≡ Bound → bound ≤ result.1.0.reads }
             {
                 let answering = scope
-                    .spawn(move || self.answer_all(half, hangup, session))
+                    .spawn(move || self.answer_all(half, hangup, slot, session))
                     .ok();
                 if answering.is_none() {
                     // Nobody would write what others cause to be said to the line: it ends at once.
                     self.floor.shut(self.rt, session);
                     hangup.hang_up();
                 }
-                let read = self.read_worker(half, reader, asks, bound);
+                let read = self.read_worker(half, reader, owner, asks, bound);
                 let why = answering.and_then(|thread| thread.join(self.rt));
                 (why, read)
             },
@@ -111,7 +115,14 @@ impl<
     {
         let session = outs.session();
         let half = Mutex::new(OutHalf::<O, W, S>::new(self.alloc, outs, writer));
-        let (why, (reader, read)) = self.read_and_answer(&half, reader, hangup, asks, bound);
+        let (why, (reader, read)) = match Slot::new(self.alloc) {
+            Ok((slot, pass)) => {
+                let owner = Some(slot.owner(pass));
+                self.read_and_answer(&half, Some(&slot), owner, reader, hangup, asks, bound)
+            }
+            // What it keeps is dropped then once it acts behind a seal.
+            Err(NoMemory) => self.read_and_answer(&half, None, None, reader, hangup, asks, bound),
+        };
         let mut half = half.into_inner();
         let sent = half.flush();
         self.tell(session, sent);

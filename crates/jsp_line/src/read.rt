@@ -1,19 +1,21 @@
 //! The thread that reads a line, acts its frames and writes their answers.
-ghost use Rattle.std.specs.Prelude.{◌≡◌, ◌≤◌, ℕ, List, Option, false, IfNone, IfSome, IsTrue};
+ghost use Rattle.std.specs.Prelude.{◌≡◌, ◌≤◌, ◌++◌, ℕ, List, Option, false, IfSome, IsTrue};
 ghost use Rattle.jsp_model.specs.declared.step.Step.{Step};
 ghost use Rattle.jsp_model.specs.House.{step_of};
 ghost use Rattle.jsp_drive.specs.Line.{is_line_input, input_of};
-ghost use Rattle.jsp_drive.specs.Giving.{Gave};
+ghost use Rattle.jsp_drive.specs.Giving.{Gave, FeedsStream};
 ghost use Rattle.jsp_closing.specs.declared.closed.Ended.TheVariants.{Bound};
 ghost use Rattle.jsp_line.specs.declared.transcript.Transcript.TheVariants.{Dropped};
-ghost use Rattle.jsp_line.specs.Bytes.{saturated};
+ghost use Rattle.jsp_line.specs.Bytes.{saturated, IsTranscript};
 ghost use Rattle.jsp_line.specs.Reading.{is_closing, is_acted, Faults, Reads};
 ghost use Rattle.jsp_line.specs.Turns.{ActsOne, ActsAll, ReadsPiece, FaultsOn, GoesOn, ReadsOn};
 
 use crate::counted::Counted;
 use crate::gate::{Clock, Gate};
 use crate::half::{OutHalf, Start};
+use crate::resting::read_at_rest;
 use crate::shared::Shared;
+use crate::slot::Owner;
 use crate::transcript::Transcript;
 use jsp_closing::Ended;
 use jsp_drive::{Line, LineInput, Next};
@@ -23,6 +25,7 @@ use jsp_reply::Refusal;
 use jsp_wire::{Ask, Scratch};
 use std::alloc::Global;
 use std::io::{Read, Write};
+use std::sync::atomic::AtomicBool;
 use std::sync::ledger::Ledger;
 use std::sync::{Mutex, Wait};
 use std::time;
@@ -42,15 +45,15 @@ pub struct ReadDone<A: Ledger> {
 
 /// What a line has beside its bytes while it is read.
 #[derive(Drop)]
-pub(crate) struct Course {
+pub(crate) struct Course<'a> {
     /// What the next read is put in.
     piece: [u8; PIECE],
     /// Where payloads are read.
     scratch: Scratch,
+    /// Where what is kept stands during a read, if the line has a slot.
+    owner: Option<Owner<'a>>,
     /// How many bytes were read since the last act.
     bytes: u64,
-    /// Whether an era was seen to be sealed.
-    is_sealed: bool,
     /// Why a call was stopped, where one was.
     why: Option<Why>,
 }
@@ -65,27 +68,42 @@ fn is_closing(given: &LineInput) -> bool
     }
 }
 
+// Keeps a piece that was read, and feeds it to the line. No where there is no memory for that.
+fn keep_piece(transcript: &mut Transcript, line: &mut Line, piece: &[u8]) -> bool
+    ensures kept { (all : List ℕ) → IsTranscript transcript.old all → IsTranscript transcript.new (all ++ piece.now) }
+    ensures fed { FeedsStream line.old piece.now line.new }
+    ensures dropped { IsTrue result → transcript.new ≡ Dropped → transcript.old ≡ Dropped }
+{
+    let is_kept = transcript.add(piece).is_ok();
+    let is_fed = line.feed(piece).is_ok();
+    is_kept && is_fed
+}
+
 // One read. Its bytes are kept and fed to the line.
 fn read_piece<R: Read>(
     reader: &mut Counted<R>,
     transcript: &mut Transcript,
     line: &mut Line,
-    course: &mut Course,
+    is_sealed: &AtomicBool,
+    course: &mut Course<'_>,
 ) -> Option<Ended>
     ensures reads { ReadsPiece (R.remaining reader.old.inner) (R.remaining reader.new.inner) transcript.old transcript.new line.old line.new result }
     ensures faults { FaultsOn result reader.old.failures reader.new.failures }
     ensures counted { reader.new.reads ≡ saturated reader.old.reads }
-    ensures dropped { IfNone result (transcript.new ≡ Dropped → transcript.old ≡ Dropped) }
     ensures not_bound { IfSome result (λ ended. ended ≡ Bound → ⊥) }
 {
-    match reader.read_once(&mut course.piece) {
+    let read = read_at_rest(
+        reader,
+        transcript,
+        &mut course.owner,
+        is_sealed,
+        &mut course.piece,
+    );
+    match read {
         Ok(0) => Some(Ended::End),
         Ok(n) => {
             course.bytes = course.bytes.saturating_add(n as u64);
-            let piece = &course.piece[..n];
-            let is_kept = transcript.add(piece).is_ok();
-            let is_fed = line.feed(piece).is_ok();
-            if is_kept && is_fed {
+            if keep_piece(transcript, line, &course.piece[..n]) {
                 return None;
             }
             course.why = Some(Why::NoMemory);
@@ -109,7 +127,7 @@ impl<H: Backlog, A: Ledger, O: Ledger, G: Gate, C: Clock, T: Wait + time::Clock>
         &self,
         half: &Mutex<OutHalf<O, W, S>>,
         seat: &mut AskSeat<A>,
-        course: &mut Course,
+        course: &mut Course<'_>,
         given: LineInput,
     ) -> Option<Ended>
         requires { IsTrue (is_line_input given) }
@@ -124,7 +142,6 @@ impl<H: Backlog, A: Ledger, O: Ledger, G: Gate, C: Clock, T: Wait + time::Clock>
             .lock(self.rt)
             .act(self.rt, self.floor, seat, time, course.bytes, given);
         course.bytes = 0;
-        course.is_sealed = acted.is_sealed;
         self.cut(acted.shut);
         let mut why = acted.why();
         if why.is_none() && acted.is_voting {
@@ -148,7 +165,7 @@ impl<H: Backlog, A: Ledger, O: Ledger, G: Gate, C: Clock, T: Wait + time::Clock>
         half: &Mutex<OutHalf<O, W, S>>,
         line: &mut Line,
         seat: &mut AskSeat<A>,
-        course: &mut Course,
+        course: &mut Course<'_>,
     ) -> Option<Ended>
         ensures session { seat.new.session ≡ seat.old.session }
         ensures acts { (stream : List ℕ) (asked : List Step) → Gave seat.old.session stream asked line.old
@@ -181,7 +198,7 @@ impl<H: Backlog, A: Ledger, O: Ledger, G: Gate, C: Clock, T: Wait + time::Clock>
         transcript: &mut Transcript,
         line: &mut Line,
         seat: &mut AskSeat<A>,
-        course: &mut Course,
+        course: &mut Course<'_>,
     ) -> Option<Ended>
         ensures session { seat.new.session ≡ seat.old.session }
         ensures reads { (start : Option (List ℕ)) (n : ℕ)
@@ -191,14 +208,12 @@ impl<H: Backlog, A: Ledger, O: Ledger, G: Gate, C: Clock, T: Wait + time::Clock>
         ensures counted { reader.new.reads ≡ saturated reader.old.reads }
         ensures not_bound { IfSome result (λ ended. ended ≡ Bound → ⊥) }
     {
-        if let Some(ended) = read_piece(reader, transcript, line, course) {
+        let is_sealed = self.floor.is_sealed();
+        if let Some(ended) = read_piece(reader, transcript, line, is_sealed, course) {
             return Some(ended);
         }
         let ended = self.act_all(half, line, seat, course);
         self.send(half, seat.session());
-        if course.is_sealed {
-            transcript.forget();
-        }
         ended
     }
 
@@ -210,7 +225,7 @@ impl<H: Backlog, A: Ledger, O: Ledger, G: Gate, C: Clock, T: Wait + time::Clock>
         transcript: &mut Transcript,
         line: &mut Line,
         seat: &mut AskSeat<A>,
-        course: &mut Course,
+        course: &mut Course<'_>,
         bound: u64,
     ) -> Ended
         ensures session { seat.new.session ≡ seat.old.session }
@@ -233,6 +248,7 @@ impl<H: Backlog, A: Ledger, O: Ledger, G: Gate, C: Clock, T: Wait + time::Clock>
         &self,
         half: &Mutex<OutHalf<O, W, S>>,
         reader: R,
+        owner: Option<Owner<'_>>,
         mut seat: AskSeat<A>,
         bound: u64,
     ) -> (Counted<R>, ReadDone<A>)
@@ -247,8 +263,8 @@ impl<H: Backlog, A: Ledger, O: Ledger, G: Gate, C: Clock, T: Wait + time::Clock>
         let mut course = Course {
             piece: [0; PIECE],
             scratch: Scratch::new(self.alloc),
+            owner,
             bytes: 0,
-            is_sealed: false,
             why: None,
         };
         let ended = self.read_turns(

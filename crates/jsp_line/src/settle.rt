@@ -22,10 +22,12 @@ impl<H: Backlog, A: Ledger, O: Ledger, G: Gate, C: Clock, T: Wait + time::Clock>
     T,
 > {
     /// Settles in turns until all lines have ended and nothing is to settle. While lines live, a turn
-    /// that finds no memory is taken again.
+    /// that finds no memory is taken again. Meanwhile it counts where that is wanted, and tells the
+    /// lines of the first seal.
     pub fn settle_worker(&self) -> Option<Why> {
         for _ in self.rt.forever() {
             self.count_where_wanted();
+            self.floor.tell_of_seal(self.rt);
             let turned = self.floor.settle(self.rt, self.clock.now(), None);
             self.cut(turned.shut);
             match turned.settled {
