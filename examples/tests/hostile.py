@@ -130,6 +130,23 @@ def idles(address):
     is_served(address)
 
 
+def dribbles(address):
+    """It sends a byte now and then, and never a whole request: its connection is closed after a second all the same.
+    One that makes a request now and then keeps its own."""
+    with socket.create_connection(address, SECONDS) as stream, Client(*address) as jsp:
+        began = time.monotonic()
+        try:
+            for byte in frame(b'{"id":1,"op":"spaces"}')[:-1]:
+                stream.sendall(bytes([byte]))
+                assert jsp.spaces() == ["a", "b"]
+                time.sleep(0.2)
+            assert received(stream, 1) == b""
+        except ConnectionError:
+            pass
+        assert time.monotonic() - began < 4
+    is_served(address)
+
+
 def sends_what_is_refused(address):
     """Six hundred requests of a megabyte, which are refused: the server keeps no more of them than an era holds."""
     asked = {"id": 1, "op": "write", "space": "no such space", "entry": entry("Job", who="x" * 1_000_000), "lease": 1}
@@ -191,6 +208,7 @@ CASES = {
     three_hundred_at_once: (301, 1024, "unlimited", ""),
     more_than_the_descriptors: (61, 40, "unlimited", ""),
     idles: (4, 1024, "unlimited", "--idle 1"),
+    dribbles: (3, 1024, "unlimited", "--idle 1"),
     declares_what_a_frame_holds: (2, 1024, "unlimited", ""),
     sends_what_is_refused: (2, 1024, 500_000, "--era-bytes 16777216"),
 }

@@ -99,16 +99,25 @@ struct OneLine<'a> {
 
 /// What a line in memory has no need of.
 #[derive(Drop)]
-struct Connected {}
+struct Connected {
+    requests: AtomicU64,
+}
 
 impl Hangup for Connected {
     fn hang_up(&self) {}
+
+    fn requests(&self) -> &AtomicU64 {
+        &self.requests
+    }
 }
 
 impl<'a> Door<Incoming<'a>, Outgoing<'a>, Connected> for OneLine<'a> {
     fn next(&mut self) -> Knock<Incoming<'a>, Outgoing<'a>, Connected> {
         match self.line.take() {
-            Some((incoming, outgoing)) => Knock::Line(incoming, outgoing, Connected {}),
+            Some((incoming, outgoing)) => {
+                let requests = AtomicU64::new(0);
+                Knock::Line(incoming, outgoing, Connected { requests })
+            }
             None => Knock::Closed,
         }
     }

@@ -204,16 +204,25 @@ struct Lines<'w, 'a, T> {
 
 // What a line in memory has no need of.
 #[derive(Drop)]
-struct Connected {}
+struct Connected {
+    requests: AtomicU64,
+}
 
 impl Hangup for Connected {
     fn hang_up(&self) {}
+
+    fn requests(&self) -> &AtomicU64 {
+        &self.requests
+    }
 }
 
 impl<'w, 'a, T> Door<Incoming<'w, 'a, T>, Outgoing<'w, 'a, T>, Connected> for Lines<'w, 'a, T> {
     fn next(&mut self) -> Knock<Incoming<'w, 'a, T>, Outgoing<'w, 'a, T>, Connected> {
         match self.left.pop() {
-            Some((incoming, outgoing)) => Knock::Line(incoming, outgoing, Connected {}),
+            Some((incoming, outgoing)) => {
+                let requests = AtomicU64::new(0);
+                Knock::Line(incoming, outgoing, Connected { requests })
+            }
             None => Knock::Closed,
         }
     }

@@ -1,7 +1,11 @@
-//! How a line's connection is ended from within.
+//! A line's connection as it is seen from within.
+use std::sync::atomic::AtomicU64;
 
-/// Ends the connection of a line.
+/// The connection of a line, which can be ended, and knows how much was asked.
 pub trait Hangup {
     /// Ends it both ways: whoever waits for its next bytes goes on, and its client sees that it ended.
     fn hang_up(&self);
+
+    /// How many whole frames of it were acted. Its line counts them.
+    fn requests(&self) -> &AtomicU64;
 }

@@ -83,7 +83,7 @@ impl<
                     self.floor.shut(self.rt, session);
                     hangup.hang_up();
                 }
-                let read = self.read_worker(half, reader, owner, asks, bound);
+                let read = self.read_worker(half, reader, owner, hangup.requests(), asks, bound);
                 let why = answering.and_then(|thread| thread.join(self.rt));
                 (why, read)
             },

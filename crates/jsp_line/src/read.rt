@@ -25,7 +25,7 @@ use jsp_reply::Refusal;
 use jsp_wire::{Ask, Scratch};
 use std::alloc::Global;
 use std::io::{Read, Write};
-use std::sync::atomic::AtomicBool;
+use std::sync::atomic::{AtomicBool, AtomicU64, Ordering};
 use std::sync::ledger::Ledger;
 use std::sync::{Mutex, Wait};
 use std::time;
@@ -52,6 +52,8 @@ pub(crate) struct Course<'a> {
     scratch: Scratch,
     /// Where what is kept stands during a read, if the line has a slot.
     owner: Option<Owner<'a>>,
+    /// How many whole frames were acted.
+    requests: &'a AtomicU64,
     /// How many bytes were read since the last act.
     bytes: u64,
     /// Why a call was stopped, where one was.
@@ -137,6 +139,7 @@ impl<H: Backlog, A: Ledger, O: Ledger, G: Gate, C: Clock, T: Wait + time::Clock>
         let before = seat.count();
         let closing = is_closing(&given);
         self.gate.before(seat.session(), before.saturating_add(1));
+        course.requests.fetch_add(1, Ordering::Relaxed);
         let time = self.clock.now();
         let acted = half
             .lock(self.rt)
@@ -249,6 +252,7 @@ impl<H: Backlog, A: Ledger, O: Ledger, G: Gate, C: Clock, T: Wait + time::Clock>
         half: &Mutex<OutHalf<O, W, S>>,
         reader: R,
         owner: Option<Owner<'_>>,
+        requests: &AtomicU64,
         mut seat: AskSeat<A>,
         bound: u64,
     ) -> (Counted<R>, ReadDone<A>)
@@ -264,6 +268,7 @@ impl<H: Backlog, A: Ledger, O: Ledger, G: Gate, C: Clock, T: Wait + time::Clock>
             piece: [0; PIECE],
             scratch: Scratch::new(self.alloc),
             owner,
+            requests,
             bytes: 0,
             why: None,
         };

@@ -121,7 +121,7 @@ impl<T: SystemClock> Clock for Uptime<'_, T> {
 pub struct Service {
     /// How many connections there are before it ends.
     pub lines: u64,
-    /// After how much time a connection on which nothing comes is closed, where one is.
+    /// After how much time in which it makes no whole request a connection is closed, where one is.
     pub idle: Option<Duration>,
     /// How many are served at once, and what the history takes of memory: a step is some 300 bytes where requests are
     /// short.

@@ -1,0 +1,170 @@
+//! A connection as its line has it: two halves, and the whole of it.
+ghost use Rattle.std.specs.Prelude.{◌≤◌, length, IfOk};
+
+use crate::idle::Idle;
+use jsp_floor::Hangup;
+use std::alloc::Global;
+use std::io::{self, ErrorKind, Read, Write};
+use std::net::{Shutdown, TcpStream};
+use std::sync::Arc;
+use std::sync::atomic::AtomicU64;
+use std::time::{Clock, Duration};
+
+/// How often a read or a write that was interrupted is made again. Nothing interrupts one so often; the bound is there
+/// so that each of the two loops below ends by itself: the call behind it is the last, and its answer is the answer.
+const INTERRUPTIONS: u32 = 1000;
+
+/// What both halves of a connection share.
+#[derive(Drop)]
+struct Link<'a, T> {
+    system: &'a T,
+    stream: TcpStream,
+    /// How many whole requests it made.
+    requests: AtomicU64,
+    /// How long it may make none, if that is bounded.
+    idle: Option<Idle>,
+}
+
+impl<T: Clock> Link<'_, T> {
+    /// How long the next call may take, where that is bounded. An error where no time is left.
+    fn time_left(&self) -> io::Result<Option<Duration>> {
+        match &self.idle {
+            None => Ok(None),
+            Some(idle) => Ok(Some(idle.left(self.system, &self.requests)?)),
+        }
+    }
+}
+
+/// The two halves of a connection, and the whole of it. An answer goes out at once, without waiting for more to send
+/// with it. None where the client is gone, or there is no memory: the connection is closed then.
+pub(crate) fn halves<'a, T: Clock>(
+    system: &'a T,
+    alloc: Global,
+    stream: TcpStream,
+    idle: Option<Duration>,
+) -> Option<(Incoming<'a, T>, Outgoing<'a, T>, Connection<'a, T>)> {
+    stream.set_nodelay(true).ok()?;
+    let idle = match idle {
+        None => None,
+        Some(most) => Some(Idle::new(system, most).ok()?),
+    };
+    let link = Link {
+        system,
+        stream,
+        requests: AtomicU64::new(0),
+        idle,
+    };
+    let link = Arc::new(alloc, link).ok()?;
+    let incoming = Incoming {
+        link: Arc::try_clone(&link).ok()?,
+        bound: None,
+    };
+    let outgoing = Outgoing {
+        link: Arc::try_clone(&link).ok()?,
+        bound: None,
+    };
+    Some((incoming, outgoing, Connection(link)))
+}
+
+/// Whether a call is to be made again: where it has a bound on its time, a program that is halted and goes on
+/// interrupts it.
+fn is_interrupted(done: &io::Result<usize>) -> bool {
+    matches!(done, Err(error) if error.kind() == ErrorKind::Interrupted)
+}
+
+/// The reading half of a connection.
+#[derive(Drop)]
+pub(crate) struct Incoming<'a, T> {
+    link: Arc<Link<'a, T>>,
+    /// How long a read may take as the system knows it.
+    bound: Option<Duration>,
+}
+
+impl<T: Clock> Incoming<'_, T> {
+    fn read_once(&mut self, bytes: &mut [u8]) -> io::Result<usize> {
+        let left = self.link.time_left()?;
+        if left != self.bound {
+            self.link.stream.set_read_timeout(left)?;
+            self.bound = left;
+        }
+        let mut stream = &self.link.stream;
+        stream.read(bytes)
+    }
+}
+
+impl<T: Clock> Read for Incoming<'_, T> {
+    fn read(&mut self, bytes: &mut [u8]) -> io::Result<usize> {
+        // Ends at the first call that wasn't interrupted, and after a thousand that were.
+        for _ in 0..INTERRUPTIONS {
+            let read = self.read_once(bytes);
+            if !is_interrupted(&read) {
+                return read;
+            }
+        }
+        self.read_once(bytes)
+    }
+}
+
+/// The writing half of a connection. Where a write fails the connection is ended.
+#[derive(Drop)]
+pub(crate) struct Outgoing<'a, T> {
+    link: Arc<Link<'a, T>>,
+    /// How long a write may take as the system knows it.
+    bound: Option<Duration>,
+}
+
+impl<T: Clock> Outgoing<'_, T> {
+    fn write_once(&mut self, bytes: &[u8]) -> io::Result<usize>
+        ensures { IfOk result (λ n. n ≤ length bytes.now) }
+    {
+        let left = self.link.time_left()?;
+        if left != self.bound {
+            self.link.stream.set_write_timeout(left)?;
+            self.bound = left;
+        }
+        let mut stream = &self.link.stream;
+        stream.write(bytes)
+    }
+
+    fn write_some(&mut self, bytes: &[u8]) -> io::Result<usize>
+        ensures { IfOk result (λ n. n ≤ length bytes.now) }
+    {
+        // Ends at the first call that wasn't interrupted, and after a thousand that were.
+        for _ in 0..INTERRUPTIONS {
+            let written = self.write_once(bytes);
+            if !is_interrupted(&written) {
+                return written;
+            }
+        }
+        self.write_once(bytes)
+    }
+}
+
+impl<T: Clock> Write for Outgoing<'_, T> {
+    fn write(&mut self, bytes: &[u8]) -> io::Result<usize> {
+        let written = self.write_some(bytes);
+        if !matches!(written, Ok(1..)) && !bytes.is_empty() {
+            let _ = self.link.stream.shutdown(Shutdown::Both);
+        }
+        written
+    }
+
+    fn flush(&mut self) -> io::Result<()> {
+        Ok(())
+    }
+}
+
+/// A whole connection, which can be ended while its halves are in use.
+#[derive(Drop)]
+pub(crate) struct Connection<'a, T>(Arc<Link<'a, T>>);
+
+impl<T> Hangup for Connection<'_, T> {
+    fn hang_up(&self) {
+        // Its client may have ended it before.
+        let _ = self.0.stream.shutdown(Shutdown::Both);
+    }
+
+    fn requests(&self) -> &AtomicU64 {
+        &self.0.requests
+    }
+}
