@@ -66,6 +66,35 @@ def halt(program):
     assert (server.returncode, told) == (0, b"jsp: compared 1 lines\n"), (server.returncode, told)
 
 
+def halt_for_longer(program):
+    """Halts a server for longer than its connections may make no request: who asked meanwhile is answered and told, and
+    who asked nothing, or not all of a request, is closed at once."""
+    server, host, port = listen(program, "--idle", "2")
+    with Client(host, port) as jsp, Client(host, port) as told, Client(host, port) as silent, Client(host, port) as slow:
+        jsp.declare("Job", k="int", who="text")
+        told.notify("a", entry("Job"), lease=60_000)
+        for client in silent, slow:
+            client.spaces()
+        server.send_signal(signal.SIGSTOP)
+        os.waitid(os.P_PID, server.pid, os.WSTOPPED)
+        slow.socket.sendall(b"\0\0\0\x17{")
+        asked = jsp.send("write_all", space="a", entries=[entry("Job", who="x" * 8_000)] * 3, lease=60_000)
+        named = told.send("spaces")
+        time.sleep(3)
+        server.send_signal(signal.SIGCONT)
+        began = time.monotonic()
+        for client in silent, slow:
+            client.socket.settimeout(20)
+            assert client.socket.recv(1) == b""
+        assert time.monotonic() - began < 1.5
+        jsp.wait(asked)
+        assert told.wait(named) == ["a", "b"]
+        for _ in range(3):
+            assert told.event(20)
+        ended = server.communicate(b"\n", timeout=60)[1]
+    assert (server.returncode, ended) == (0, b"jsp: compared 4 lines\n"), (server.returncode, ended)
+
+
 def end_with_few_descriptors(program, descriptors):
     """The connection that wakes a server at its end needs a descriptor, which it keeps from its start on."""
     server, host, port = listen(program, descriptors=descriptors)
@@ -109,6 +138,7 @@ def end_once_no_more_come(program):
 
 
 halt(sys.argv[1:])
+halt_for_longer(sys.argv[1:])
 end_once_no_more_come(sys.argv[1:])
 end_beside_who_reads_nothing(sys.argv[1:])
 for descriptors in range(6, 11):

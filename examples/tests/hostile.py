@@ -147,6 +147,31 @@ def dribbles(address):
     is_served(address)
 
 
+def asks_now_and_then(address):
+    """A request now and then keeps a connection for longer than it may make none. One that waits for an answer, or to be
+    told, and asks nothing more, is closed meanwhile."""
+    with Client(*address) as jsp, Client(*address) as waiting, Client(*address) as told:
+        for client in (jsp, waiting, told):
+            client.socket.settimeout(SECONDS)
+        jsp.declare("Job", k="int")
+        told.notify("a", entry("Job"), lease=LONGEST)
+        began = time.monotonic()
+        waiting.send("take", space="b", template=None, timeout=10**9)
+        for _ in range(10):
+            jsp.write("a", entry("Job", k=1), lease=LONGEST)
+            time.sleep(0.3)
+        assert waiting.socket.recv(1) == b""
+        heard = 0
+        try:
+            while told.event(SECONDS):
+                heard += 1
+        except ConnectionError:
+            pass
+        assert 0 < heard < 10
+        assert time.monotonic() - began < 10
+        assert jsp.spaces() == ["a", "b"]
+
+
 def sends_what_is_refused(address):
     """Six hundred requests of a megabyte, which are refused: the server keeps no more of them than an era holds."""
     asked = {"id": 1, "op": "write", "space": "no such space", "entry": entry("Job", who="x" * 1_000_000), "lease": 1}
@@ -209,6 +234,7 @@ CASES = {
     more_than_the_descriptors: (61, 40, "unlimited", ""),
     idles: (4, 1024, "unlimited", "--idle 1"),
     dribbles: (3, 1024, "unlimited", "--idle 1"),
+    asks_now_and_then: (3, 1024, "unlimited", "--idle 1"),
     declares_what_a_frame_holds: (2, 1024, "unlimited", ""),
     sends_what_is_refused: (2, 1024, 500_000, "--era-bytes 16777216"),
 }

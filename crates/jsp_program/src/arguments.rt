@@ -129,9 +129,7 @@ fn listen<'a>(alloc: Global) -> Result<Command<'a>, AllocError> {
     let idle = Arg::new(alloc, IDLE)
         .long(IDLE)
         .value_name("SECONDS")
-        .help(
-            "Closes a connection that sends nothing, or reads nothing, for so long [default: never]",
-        )
+        .help("Closes a connection that makes no whole request for so long [default: never]")
         .value_parser(ValueParser::unsigned(1, LONGEST_IDLE));
     let until_input = Arg::new(alloc, UNTIL_INPUT)
         .long(UNTIL_INPUT)

@@ -1,16 +1,20 @@
 //! How long a connection may make no whole request.
-use std::io::{self, ErrorKind};
+ghost use Rattle.std.specs.Prelude.{◌≡◌, ◌-◌, ◌*◌};
+ghost use Rattle.std.specs.Duration.{as_nanos};
+
+use std::io;
 use std::sync::atomic::{AtomicU64, Ordering};
 use std::time::{Clock, Duration, Instant};
 
-/// How long a connection may make no whole request. It counts from the last one, or from the connection's
-/// beginning: a byte now and then doesn't begin it anew, nor does a call that was interrupted.
+/// How long a connection may make no whole request. It counts from the last one, or from the
+/// connection's beginning: a byte now and then doesn't begin it anew, nor does a call that was
+/// interrupted.
 #[derive(Drop)]
 pub(crate) struct Idle {
     most: Duration,
     start: Instant,
-    /// How many requests there were when it was looked last, and when there were so many first, in milliseconds
-    /// after the start.
+    /// How many requests there were when it was looked last, and when there were so many first, in
+    /// milliseconds after the start.
     seen: AtomicU64,
     since: AtomicU64,
 }
@@ -26,18 +30,23 @@ impl Idle {
         })
     }
 
-    /// How much time is left, where so many requests were made. An error where none is.
+    /// How much time is left, in whole milliseconds, where so many requests were made: zero once it
+    /// is over.
     pub(crate) fn left(&self, system: &impl Clock, requests: &AtomicU64) -> io::Result<Duration> {
         let now = u64::try_from(self.start.elapsed(system)?.as_millis()).unwrap_or(u64::MAX);
-        let requests = requests.load(Ordering::Relaxed);
-        if self.seen.swap(requests, Ordering::Relaxed) != requests {
-            self.since.store(now, Ordering::Relaxed);
+        let requests = requests.load(Ordering::SeqCst);
+        if self.seen.load(Ordering::SeqCst) != requests {
+            // The time comes first: the other half, once it sees the number, counts from there too.
+            self.since.store(now, Ordering::SeqCst);
+            self.seen.store(requests, Ordering::SeqCst);
         }
-        let gone = now.saturating_sub(self.since.load(Ordering::Relaxed));
-        let left = self.most.saturating_sub(Duration::from_millis(gone));
-        if left.is_zero() {
-            return Err(ErrorKind::TimedOut.into());
-        }
-        Ok(left)
+        Ok(left_at(now, self.since.load(Ordering::SeqCst), self.most))
     }
+}
+
+/// How much is left now of a time that began then, both in milliseconds: zero once it is over.
+fn left_at(now: u64, then: u64, most: Duration) -> Duration
+    ensures { as_nanos result ≡ as_nanos most - (now - then) * 1_000_000 }
+{
+    most.saturating_sub(Duration::from_millis(now.saturating_sub(then)))
 }

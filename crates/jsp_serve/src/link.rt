@@ -1,5 +1,6 @@
 //! A connection as its line has it: two halves, and the whole of it.
 ghost use Rattle.std.specs.Prelude.{◌≤◌, length, IfOk};
+ghost use Rattle.std.specs.Io.{ReadsAtMost};
 
 use crate::idle::Idle;
 use jsp_floor::Hangup;
@@ -14,6 +15,9 @@ use std::time::{Clock, Duration};
 /// so that each of the two loops below ends by itself: the call behind it is the last, and its answer is the answer.
 const INTERRUPTIONS: u32 = 1000;
 
+/// How many milliseconds a call may take for which no time is left: none is too few for a socket.
+const SHORTEST: u64 = 1;
+
 /// What both halves of a connection share.
 #[derive(Drop)]
 struct Link<'a, T> {
@@ -26,7 +30,7 @@ struct Link<'a, T> {
 }
 
 impl<T: Clock> Link<'_, T> {
-    /// How long the next call may take, where that is bounded. An error where no time is left.
+    /// How long the next call may take, where that is bounded: zero where no time is left.
     fn time_left(&self) -> io::Result<Option<Duration>> {
         match &self.idle {
             None => Ok(None),
@@ -58,12 +62,18 @@ pub(crate) fn halves<'a, T: Clock>(
     let incoming = Incoming {
         link: Arc::try_clone(&link).ok()?,
         bound: None,
+        is_over: false,
     };
     let outgoing = Outgoing {
         link: Arc::try_clone(&link).ok()?,
         bound: None,
     };
     Some((incoming, outgoing, Connection(link)))
+}
+
+/// How long a socket is to wait in a call for which so much time is left.
+fn bound_of(left: Option<Duration>) -> Option<Duration> {
+    left.map(|left| left.max(Duration::from_millis(SHORTEST)))
 }
 
 /// Whether a call is to be made again: where it has a bound on its time, a program that is halted and goes on
@@ -78,17 +88,30 @@ pub(crate) struct Incoming<'a, T> {
     link: Arc<Link<'a, T>>,
     /// How long a read may take as the system knows it.
     bound: Option<Duration>,
+    /// Whether the last read had no time left, and took all that had come.
+    is_over: bool,
 }
 
 impl<T: Clock> Incoming<'_, T> {
-    fn read_once(&mut self, bytes: &mut [u8]) -> io::Result<usize> {
+    /// One read. Where no time is left it takes what came while nobody could read it, as where the
+    /// server was halted. If that was all, and no whole request, the next one fails.
+    fn read_once(&mut self, bytes: &mut [u8]) -> io::Result<usize>
+        ensures { ReadsAtMost result bytes.new }
+    {
         let left = self.link.time_left()?;
-        if left != self.bound {
-            self.link.stream.set_read_timeout(left)?;
-            self.bound = left;
+        let is_late = left == Some(Duration::ZERO);
+        if is_late && self.is_over {
+            return Err(ErrorKind::TimedOut.into());
+        }
+        let bound = bound_of(left);
+        if bound != self.bound {
+            self.link.stream.set_read_timeout(bound)?;
+            self.bound = bound;
         }
         let mut stream = &self.link.stream;
-        stream.read(bytes)
+        let read = stream.read(bytes);
+        self.is_over = is_late && matches!(read, Ok(count) if count < bytes.len());
+        read
     }
 }
 
@@ -114,13 +137,14 @@ pub(crate) struct Outgoing<'a, T> {
 }
 
 impl<T: Clock> Outgoing<'_, T> {
+    /// One write. Where no time is left it gives what the client has room for.
     fn write_once(&mut self, bytes: &[u8]) -> io::Result<usize>
         ensures { IfOk result (λ n. n ≤ length bytes.now) }
     {
-        let left = self.link.time_left()?;
-        if left != self.bound {
-            self.link.stream.set_write_timeout(left)?;
-            self.bound = left;
+        let bound = bound_of(self.link.time_left()?);
+        if bound != self.bound {
+            self.link.stream.set_write_timeout(bound)?;
+            self.bound = bound;
         }
         let mut stream = &self.link.stream;
         stream.write(bytes)
