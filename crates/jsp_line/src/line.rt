@@ -17,7 +17,6 @@ use crate::transcript::Transcript;
 use jsp_closing::Ended;
 use jsp_kept::{AskSeat, Backlog, OutSeat};
 use jsp_model::Why;
-use jsp_types::NoMemory;
 use std::io::{Read, Write};
 use std::marker::Brand;
 use std::sync::ledger::Ledger;
@@ -90,6 +89,33 @@ impl<
         )
     }
 
+    // The same, with a slot for what the line keeps while it waits. Without memory for one, what it
+    // keeps is dropped once it acts behind a seal.
+    fn read_with_slot<
+        R: Read + Send + Drop,
+        W: Write + Send + Drop,
+        X: Hangup + Sync,
+        S: Start + Send + Sync,
+    >(
+        &self,
+        half: &Mutex<OutHalf<O, W, S>>,
+        reader: R,
+        hangup: &X,
+        asks: AskSeat<A>,
+        bound: u64,
+    ) -> (Option<Why>, (Counted<R>, ReadDone<A>))
+        ensures session { result.1.1.seat.session ≡ asks.session }
+        ensures reads { Reads asks.session (R.remaining reader) (R.remaining result.1.0.inner) result.1.1.transcript result.1.1.ended asks.count result.1.1.seat.count }
+        ensures faults { Faults result.1.1.ended 0 result.1.0.failures }
+        ensures bound { result.1.1.ended ≡ Bound → bound ≤ result.1.0.reads }
+    {
+        let Ok((slot, pass)) = Slot::new(self.alloc) else {
+            return self.read_and_answer(half, None, None, reader, hangup, asks, bound);
+        };
+        let owner = slot.owner(pass);
+        self.read_and_answer(half, Some(&slot), Some(owner), reader, hangup, asks, bound)
+    }
+
     // Serves a line, whose writer's first bytes are picked.
     fn serve_from<
         R: Read + Send + Drop,
@@ -115,14 +141,7 @@ impl<
     {
         let session = outs.session();
         let half = Mutex::new(OutHalf::<O, W, S>::new(self.alloc, outs, writer));
-        let (why, (reader, read)) = match Slot::new(self.alloc) {
-            Ok((slot, pass)) => {
-                let owner = Some(slot.owner(pass));
-                self.read_and_answer(&half, Some(&slot), owner, reader, hangup, asks, bound)
-            }
-            // What it keeps is dropped then once it acts behind a seal.
-            Err(NoMemory) => self.read_and_answer(&half, None, None, reader, hangup, asks, bound),
-        };
+        let (why, (reader, read)) = self.read_with_slot(&half, reader, hangup, asks, bound);
         let mut half = half.into_inner();
         let sent = half.flush();
         self.tell(session, sent);
