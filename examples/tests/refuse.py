@@ -23,6 +23,7 @@ SECONDS = 60
 AT_ONCE = 2  # seconds, on a machine that does much else
 GROWTHS, THREADS, ACCEPTS, SENDS = 0, 24, 48, 72  # where the control file has the three numbers of each
 REASONS = 7  # why a connection is refused
+NAMED = 16  # how many sessions a server names
 MANY = 2**62
 
 
@@ -191,6 +192,61 @@ def famine(refusing):
     server.kill()
 
 
+def write_while_refused(refusing, address, first, many, is_met):
+    """A client writes while growths are refused, from its request on where it was met before, else from its connection
+    on. It asks once more where none is: a line has ended of which something found no memory."""
+    if not is_met:
+        refusing.refuse(GROWTHS, first, many)
+    with connect(address) as jsp:
+        jsp.declare("Job", k="int")
+        if is_met:
+            refusing.refuse(GROWTHS, first, many)
+        jsp.write("a", entry("Job", k=1), lease=LONGEST)
+        refusing.refuse(GROWTHS, 0)
+        jsp.take("a", entry("Job", k=1))
+
+
+def ended(refusing):
+    """Memory is wanting for a while, at each growth of a request in turn and then wholly, beside two clients that work
+    before and after it. At its end the server has compared the lines of all but those that it cut, and names these."""
+    server, address = refusing.listen("--until-input")
+    cut = []
+    with connect(address) as first, connect(address) as second:
+        first.declare("Job", k="int")
+        second.declare("Job", k="int")
+        session = 2
+        for growth, many in [(growth, 1) for growth in range(1, 41)] + [(1, MANY), (5, MANY)]:
+            first.write("b", entry("Job", k=growth), lease=LONGEST)
+            session += 1
+            if is_cut(lambda: write_while_refused(refusing, address, growth, many, is_met=True)):
+                cut.append(session)
+            refusing.refuse(GROWTHS, 0)
+            assert second.take("b", entry("Job", k=growth), timeout=10) == {"k": growth}, growth
+    said = server.communicate(b"\n", SECONDS)[1].decode()
+    assert cut, session
+    named = ", ".join(map(str, cut[:NAMED])) + (f" and {len(cut) - NAMED} more" if len(cut) > NAMED else "")
+    compared = f"jsp: compared {session - len(cut)} lines\n"
+    wanted = f"{compared}jsp: not compared, since memory was short: session {named}\n"
+    assert (said, server.returncode) == (wanted, 1), (said, wanted, server.returncode)
+
+
+def unmet(refusing):
+    """Memory is wanting at each growth from a connection on, so that some clients are met and others aren't. At its end
+    the server has compared the lines of all that it served, whatever became of the others."""
+    server, address = refusing.listen("--until-input")
+    served = 0
+    growths = range(1, 60)
+    for growth in growths:
+        served += not is_cut(lambda: write_while_refused(refusing, address, growth, 1, is_met=False))
+        refusing.refuse(GROWTHS, 0)
+    said = server.communicate(b"\n", SECONDS)[1].decode()
+    compared, *others = said.splitlines()
+    assert served < len(growths), served
+    assert int(compared.removeprefix("jsp: compared ").removesuffix(" lines")) >= served, (served, said)
+    short = [line for line in others if line.startswith("jsp: not compared, since memory was short: session ")]
+    assert len(short) == server.returncode, (said, server.returncode)
+
+
 def write_and_take(address):
     with connect(address) as jsp:
         jsp.declare("Job", k="int")
@@ -290,7 +346,8 @@ def shell(refusing):
     server.kill()
 
 
-CASES = {case.__name__: case for case in (scripts, served, famine, threads, lonely, accepts, sends, shell)}
+CASES = [scripts, served, famine, ended, unmet, threads, lonely, accepts, sends, shell]
+CASES = {case.__name__: case for case in CASES}
 
 if __name__ == "__main__":
     if sys.argv[1] == "cases":

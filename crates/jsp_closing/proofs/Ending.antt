@@ -40,7 +40,7 @@ is_whole spaces steps lines run laws rest count opened asks writes = record {
   run = run;
   laws = laws;
   rest = rest;
-  lines = λ i line at. is_line (i + 1) (empty spaces) steps line (asks i line at) (writes i line at);
+  lines = λ i line at. let one = asks i line at in (one.0, λ whole. is_line (i + 1) (empty spaces) steps line (one.1 whole) (writes i line at whole));
   opened = opened;
   all = sym count;
 }

@@ -1,10 +1,10 @@
 -- What lines give is what the steps ask.
-use Rattle.std.proofs.Common.{◌≡◌, ℕ, ◌+◌, false, List, [], ◌∷◌, ◌++◌, length, eqb, refl, ap, sym, ◌∙◌, inl, inr, arith, append-nil, length-append, map}
-use Rattle.std.specs.Prelude.{filter, if◌then◌else◌, Option, slice_get}
+use Rattle.std.proofs.Common.{◌≡◌, ℕ, ◌+◌, ◌-◌, ◌≤◌, true, false, List, [], ◌∷◌, ◌++◌, length, eqb, refl, ap, sym, ◌∙◌, inl, inr, arith, append-nil, length-append, map}
+use Rattle.std.specs.Prelude.{filter, if◌then◌else◌, not, Option, Some, slice_get}
 use Rattle.std.proofs.lemmas.List.{length-set, map-append}
 use Rattle.std.proofs.lemmas.List.Elements.{filter-append}
-use Rattle.std.proofs.lemmas.Bool.{eq-eqb, ne_eqb}
-use Rattle.std.proofs.lemmas.Option.{slice_get_within}
+use Rattle.std.proofs.lemmas.Bool.{and_parts, and_right, eq-eqb, ne_eqb}
+use Rattle.std.proofs.lemmas.Option.{slice_get_past, slice_get_within}
 use Rattle.jsp_wire.specs.declared.ask.Request.{Request}
 use Rattle.jsp_reply.specs.declared.refusal.Refusal.{Refusal}
 use Rattle.jsp_model.specs.declared.step.Step.{Step}
@@ -17,7 +17,7 @@ use Rattle.jsp_drive.specs.Streams.{is_request_of, requests_of}
 use Rattle.jsp_drive.specs.Giving.{Gave}
 use Rattle.jsp_drive.proofs.Asking.{asked_in-append}
 use Rattle.jsp_closing.specs.declared.closed.LineReport.{LineReport}
-use Rattle.jsp_closing.specs.Asking.{HaveGiven, GivesInput, GiveStep, unasked}
+use Rattle.jsp_closing.specs.Asking.{HaveGiven, GivesInput, GiveStep, is_short, has_short_line, asks_short, unasked, unasked_in}
 use Rattle.jsp_closing.proofs.Places.{at_set, at_push}
 
 requests_of-append : (s : ℕ) (xs ys : List Step) → requests_of s (xs ++ ys) ≡ requests_of s xs ++ requests_of s ys
@@ -70,6 +70,43 @@ give_asked s made x old new asks h = record {
   ];
 }
 
+-- ---- a session whose line isn't whole
+
+-- who has one has no whole line
+short_apart : (reports : List LineReport) (s i : ℕ) (report : LineReport) → has_short_line reports s ≡ true → slice_get reports i ≡ Some report → report.is_whole ≡ true
+    → eqb s (i + 1) ≡ false
+short_apart reports s i report short at whole =
+    ne_eqb s (i + 1) (λ same.
+    let there : slice_get reports (s - 1) ≡ Some report = ap (slice_get reports) (omega (arith, same)) ∙ at in
+    let it : is_short (slice_get reports (s - 1)) ≡ true = (and_parts (not (eqb s 0)) (is_short (slice_get reports (s - 1))) short).1 in
+    absurd (cc (sym (ap is_short there) ∙ it, ap not whole)))
+
+-- so no session with a whole line asks by its step
+short_none : (reports : List LineReport) (step : Step) → asks_short reports step ≡ true
+    → (i : ℕ) (report : LineReport) → slice_get reports i ≡ Some report → report.is_whole ≡ true → requests_of (i + 1) (step ∷ []) ≡ []
+short_none reports (step.Ask s asked rows) short i report at whole = rw (short_apart reports s i report short at whole) refl
+short_none reports (step.Fault s id refusal) short i report at whole = rw (short_apart reports s i report short at whole) refl
+short_none reports _ short i report at whole = absurd (cc (short))
+
+-- how a list tells that
+pub short_beyond : (reports : List LineReport) (s : ℕ) → length reports ≤ s - 1 → has_short_line reports s ≡ false
+short_beyond reports s past = and_right (not (eqb s 0)) (is_short (slice_get reports (s - 1))) (ap is_short (slice_get_past reports (s - 1) past))
+
+pub short_at : (reports : List LineReport) (s : ℕ) (report : LineReport) → (s ≡ 0 → ⊥) → slice_get reports (s - 1) ≡ Some report → has_short_line reports s ≡ not report.is_whole
+short_at reports s report some at = rw (ne_eqb s 0 some) (ap is_short at)
+
+-- a step asks what it asks, whoever it is that is asked
+asks_unasked : (reports : List LineReport) (x : Step) → asks_short reports (unasked x) ≡ asks_short reports x
+asks_unasked reports (step.Ask s asked rows) = refl
+asks_unasked reports (step.Fault s id refusal) = refl
+asks_unasked reports _ = refl
+
+-- it stays the same, but for what is asked in it by a session whose line isn't short
+pub again_same : (reports : List LineReport) (step again : Step) → asks_short reports step ≡ false → unasked again ≡ unasked step → unasked_in reports again ≡ unasked_in reports step
+again_same reports step again whole same =
+    let whole' : asks_short reports again ≡ false = sym (asks_unasked reports again) ∙ ap (asks_short reports) same ∙ asks_unasked reports step ∙ whole in
+    rw (whole, whole') same
+
 -- ---- all steps
 
 -- the steps and one more
@@ -77,35 +114,47 @@ pub given_more : (reports : List LineReport) (old new : List Unheard) (steps : L
     → HaveGiven reports old steps → GiveStep made old new → HaveGiven reports new (steps ++ made ∷ [])
 given_more reports old new steps made h one = record {
   count = one.count ∙ h.count;
-  gave = λ i report line at there.
+  gave = λ i report line at there whole.
       let g = one.each i line there in
-      rw (requests_of-append (i + 1) steps (made ∷ [])) (g.goes report.read.items (requests_of (i + 1) steps) (h.gave i report g.before at g.was));
+      rw (requests_of-append (i + 1) steps (made ∷ [])) (g.goes report.read.items (requests_of (i + 1) steps) (h.gave i report g.before at g.was whole));
+}
+
+-- and one by which a session asks whose line isn't whole
+pub given_left : (reports : List LineReport) (lines : List Unheard) (steps : List Step) (step : Step)
+    → HaveGiven reports lines steps → asks_short reports step ≡ true → HaveGiven reports lines (steps ++ step ∷ [])
+given_left reports lines steps step h short = record {
+  count = h.count;
+  gave = λ i report line at there whole.
+      let asked = requests_of (i + 1) steps in
+      let same : requests_of (i + 1) (steps ++ step ∷ []) ≡ asked =
+      requests_of-append (i + 1) steps (step ∷ []) ∙ ap (λ (xs : List Step). asked ++ xs) (short_none reports step short i report at whole) ∙ append-nil asked in
+      rw same (h.gave i report line at there whole);
 }
 
 -- and they are the same but for what is asked in them
-pub again_more : (old new : List Step) (step again : Step) → map unasked new ≡ map unasked old → unasked again ≡ unasked step
-    → map unasked (new ++ again ∷ []) ≡ map unasked (old ++ step ∷ [])
-again_more old new step again h one =
-    map-append unasked new (again ∷ []) ∙ ap (λ (x : Step). map unasked new ++ x ∷ []) one ∙ ap (λ (xs : List Step). xs ++ unasked step ∷ []) h ∙ sym (map-append unasked old (step ∷ []))
+pub again_more : (f : Step → Step) (old new : List Step) (step again : Step) → map f new ≡ map f old → f again ≡ f step
+    → map f (new ++ again ∷ []) ≡ map f (old ++ step ∷ [])
+again_more f old new step again h one =
+    map-append f new (again ∷ []) ∙ ap (λ (x : Step). map f new ++ x ∷ []) one ∙ ap (λ (xs : List Step). xs ++ f step ∷ []) h ∙ sym (map-append f old (step ∷ []))
 
 -- ---- before the first step
 
 pub given_nothing : HaveGiven [] [] []
-given_nothing = record { count = refl; gave = λ i report line at there. absurd (cc (at)) }
+given_nothing = record { count = refl; gave = λ i report line at there whole. absurd (cc (at)) }
 
 -- one line more is fed
 pub given_line : (reports : List LineReport) (lines : List Unheard) (report : LineReport) (line : Unheard)
     → HaveGiven reports lines [] → ((s : ℕ) → Gave s report.read.items [] line) → HaveGiven (reports ++ report ∷ []) (lines ++ line ∷ []) []
 given_line reports lines report line h fed = record {
   count = length-append lines (line ∷ []) ∙ ap (λ n. n + 1) h.count ∙ sym (length-append reports (report ∷ []));
-  gave = λ i r l at there. elim (at_push reports i report r at) [
+  gave = λ i r l at there whole. elim (at_push reports i report r at) [
     | inl last ↦ elim (at_push lines i line l there) [
       | inl end' ↦ rw (last.1, end'.1) (fed (i + 1))
       | inr before ↦ absurd (omega (arith, last.0, h.count, slice_get_within lines i l before))
     ]
     | inr before ↦ elim (at_push lines i line l there) [
       | inl end' ↦ absurd (omega (arith, end'.0, h.count, slice_get_within reports i r before))
-      | inr before' ↦ h.gave i r l before before'
+      | inr before' ↦ h.gave i r l before before' whole
     ]
   ];
 }

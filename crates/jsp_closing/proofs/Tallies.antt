@@ -101,26 +101,27 @@ pub are_matched_none : (reports : List LineReport) (matched : List ℕ) → leng
     → ((i n : ℕ) → slice_get matched i ≡ Some n → n ≡ 0) → AreMatched reports matched []
 are_matched_none reports matched count none = record {
   count = count;
-  each = λ i report n at there. rw (none i n there) (matches_none report.write_failed report.written.items);
+  each = λ i report n at there whole. rw (none i n there) (matches_none report.write_failed report.written.items);
 }
 
 -- an answer more, whose frame one line has
 pub are_matched_more : (reports : List LineReport) (matched : List ℕ) (said : List Saying) (s place from behind : ℕ) (answer : Reply) (report : LineReport) (frame : List ℕ)
     → s ≡ place + 1 → slice_get reports place ≡ Some report → slice_get matched place ≡ Some from → frame ≡ framed answer
-    → ((all : List ℕ) → Matches report.write_failed report.written.items all from → Matches report.write_failed report.written.items (all ++ frame) behind)
+    → ((all : List ℕ) → report.is_whole ≡ true → Matches report.write_failed report.written.items all from → Matches report.write_failed report.written.items (all ++ frame) behind)
     → AreMatched reports matched said → AreMatched reports (set matched place behind) (said ++ (s, answer) ∷ [])
 are_matched_more reports matched said s place from behind answer report frame session here at_from is goes h = record {
   count = length-set matched place behind ∙ h.count;
-  each = λ i r n at there. elim (at_set matched place i behind n there) [
+  each = λ i r n at there whole. elim (at_set matched place i behind n there) [
     | inl same ↦
         let mine : s ≡ i + 1 = omega (arith, session, same.0) in
         let it : report ≡ r = let there' : slice_get reports i ≡ Some report = ap (slice_get reports) same.0 ∙ here in cc in
-        let before = h.each place report from here at_from in
-        let now = goes (frames (answers_to (place + 1) said)) before in
+        let whole' : report.is_whole ≡ true = ap (λ (x : LineReport). x.is_whole) it ∙ whole in
+        let before = h.each place report from here at_from whole' in
+        let now = goes (frames (answers_to (place + 1) said)) whole' before in
         rw (frames_mine (i + 1) s answer said mine, ← it, same.1, ← is, same.0) now
     | inr other ↦
         let apart : eqb s (i + 1) ≡ false = ne_eqb s (i + 1) (λ same. other.0 (omega (arith, session, same))) in
-        rw (frames_other (i + 1) s answer said apart) (h.each i r n at other.1)
+        rw (frames_other (i + 1) s answer said apart) (h.each i r n at other.1 whole)
   ];
 }
 

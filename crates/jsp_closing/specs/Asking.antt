@@ -1,5 +1,5 @@
 -- What lines ask, read again from their bytes. The line at the place i is that of the session i + 1.
-use Rattle.std.specs.Prelude.{◌≡◌, ℕ, ◌+◌, Bool, false, List, [], ◌∷◌, ◌++◌, length, Option, Some, None, slice_get, slice_set}
+use Rattle.std.specs.Prelude.{◌≡◌, ℕ, ◌+◌, ◌-◌, ◌==◌, ◌&&◌, not, if◌then◌else◌, Bool, true, false, List, [], ◌∷◌, ◌++◌, length, Option, Some, None, slice_get, slice_set}
 use Rattle.jsp_wire.specs.declared.ask.Request.{Request}
 use Rattle.jsp_wire.specs.declared.ask.Ask.TheVariants.{Bye}
 use Rattle.jsp_reply.specs.declared.refusal.Refusal.TheVariants.{TooLong}
@@ -12,10 +12,10 @@ use Rattle.jsp_drive.specs.Streams.{requests_of}
 use Rattle.jsp_drive.specs.Giving.{Gave, GaveAll, FollowsStream}
 use Rattle.jsp_closing.specs.declared.closed.LineReport.{LineReport}
 
--- each line was fed its bytes, and gave for them what its session asks in these steps
+-- each line was fed its bytes, and gave for them what its session asks in these steps, if it is whole
 pub record HaveGiven (reports : List LineReport) (lines : List Unheard) (steps : List Step) : Type 0 where
   pub count : length lines ≡ length reports
-  pub gave : (i : ℕ) (report : LineReport) (line : Unheard) → slice_get reports i ≡ Some report → slice_get lines i ≡ Some line
+  pub gave : (i : ℕ) (report : LineReport) (line : Unheard) → slice_get reports i ≡ Some report → slice_get lines i ≡ Some line → report.is_whole ≡ true
       → Gave (i + 1) report.read.items (requests_of (i + 1) steps) line
 
 -- the session's line gave this input
@@ -39,6 +39,20 @@ pub record GiveStep (step : Step) (old new : List Unheard) : Type 0 where
   pub count : length new ≡ length old
   pub each : (i : ℕ) (after : Unheard) → slice_get new i ≡ Some after → GivesStep (i + 1) step (slice_get old i) after
 
+abbrev pub is_short : Option LineReport → Bool
+is_short None = false
+is_short (Some report) = not report.is_whole
+
+-- the line of the session isn't whole
+abbrev pub has_short_line : List LineReport → ℕ → Bool
+has_short_line reports s = not (s == 0) && is_short (slice_get reports (s - 1))
+
+-- a session asks by the step whose line isn't whole
+abbrev pub asks_short : List LineReport → Step → Bool
+asks_short reports (step.Ask s asked rows) = has_short_line reports s
+asks_short reports (step.Fault s id refusal) = has_short_line reports s
+asks_short reports other = false
+
 -- these bytes say what was asked and then something more, or nothing
 pub record SaysMore (s : ℕ) (read : List ℕ) (asked : List Step) (more : Bool) : Type 0 where
   pub left : List Step
@@ -55,3 +69,7 @@ abbrev pub unasked : Step → Step
 unasked (step.Ask s asked rows) = step.Ask s anything rows
 unasked (step.Fault s id refusal) = step.Fault s None TooLong
 unasked other = other
+
+-- the step, but for what is asked in it by a session whose line isn't short
+abbrev pub unasked_in : List LineReport → Step → Step
+unasked_in reports step = if asks_short reports step then step else unasked step

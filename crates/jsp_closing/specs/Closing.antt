@@ -8,7 +8,7 @@ use Rattle.jsp_model.specs.Runs.{IsRun, state_after}
 use Rattle.jsp_model.specs.Settling.{settle_step, AllQuiet}
 use Rattle.jsp_laws.specs.Runs.{LawsOfRuns}
 use Rattle.jsp_kept.specs.declared.kept.Era.{Era}
-use Rattle.jsp_closing.specs.Asking.{unasked}
+use Rattle.jsp_closing.specs.Asking.{unasked_in}
 use Rattle.jsp_closing.specs.declared.closed.Closed.{Closed}
 use Rattle.jsp_closing.specs.declared.closed.Closed.TheVariants as closed
 use Rattle.jsp_closing.specs.declared.closed.LineReport.{LineReport}
@@ -35,7 +35,8 @@ opens _ = false
 
 -- The whole history of a house of these spaces, and its lines. The steps are one run from the empty state, so all laws of
 -- runs hold in them, and it is at rest after it. There is one line for each session, by its number: as many sessions were
--- opened as there are lines, and the last of them has that number.
+-- opened as there are lines, and the last of them has that number. What a line read and wrote is that of the run, if it is
+-- whole.
 pub record IsWhole (spaces : List (List ℕ)) (steps : List Step) (reports : List LineReport) : Type 0 where
   pub run : IsRun (empty spaces) steps
   pub laws : LawsOfRuns (empty spaces) steps
@@ -58,9 +59,10 @@ Closes spaces (closed.Whole steps lines) = IsWhole spaces steps.items lines.item
 Closes spaces (closed.Sealed steps) = IsLast spaces steps.items
 
 -- What is answered of an era and of what lines read and wrote. Where no era was sealed: the lines as they were given, in
--- another order, and its steps, but for what is asked in them, which is read again from the lines. Else the era itself.
+-- another order, and its steps, but for what is asked in them, which is read again from the lines; where a line isn't whole
+-- its session's steps are the era's. Else the era itself.
 abbrev pub IsOf : Era → List LineReport → Closed → Type 0
-IsOf era reports (closed.Whole steps lines) = (era.is_sealed ≡ false) × IsPermutation reports lines.items × (map unasked steps.items ≡ map unasked era.steps.items)
+IsOf era reports (closed.Whole steps lines) = (era.is_sealed ≡ false) × IsPermutation reports lines.items × (map (unasked_in lines.items) steps.items ≡ map (unasked_in lines.items) era.steps.items)
 IsOf era reports (closed.Sealed steps) = (era.is_sealed ≡ true) × (steps ≡ era.steps)
 
 -- a growth was refused, or what should be the same differs

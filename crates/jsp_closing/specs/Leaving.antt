@@ -1,5 +1,5 @@
 -- What lines leave unasked. The line at the place i is that of the session i + 1.
-use Rattle.std.specs.Prelude.{◌≡◌, ℕ, ◌+◌, ◌==◌, ◌||◌, ◌⊎◌, Bool, false, List, length, Some, slice_get}
+use Rattle.std.specs.Prelude.{◌≡◌, ℕ, ◌+◌, ◌==◌, ◌||◌, ◌⊎◌, Bool, true, false, List, length, Some, slice_get}
 use Rattle.jsp_model.specs.declared.state.State.{State}
 use Rattle.jsp_model.specs.declared.step.Step.{Step}
 use Rattle.jsp_model.specs.Lookup.{is_open}
@@ -26,5 +26,9 @@ pub record AsksIn (s : ℕ) (steps : List Step) (after : State) (line : LineRepo
   pub may_leave : line.write_failed ≡ false → (more ≡ false) ⊎ (((is_open after s ≡ false) × (was_shut s steps ≡ false)) ⊎ WasCut s steps line.ended)
   pub ended : MayEnd line.ended line.write_failed (was_shut s steps)
 
+-- it is the session's line, and asks in the steps if it is whole
+abbrev pub MayAsk : ℕ → List Step → State → LineReport → Type 0
+MayAsk s steps after line = (line.session ≡ s) × (line.is_whole ≡ true → AsksIn s steps after line)
+
 abbrev pub AllAsk : List Step → State → List LineReport → Type 0
-AllAsk steps after lines = (i : ℕ) (line : LineReport) → slice_get lines i ≡ Some line → AsksIn (i + 1) steps after line
+AllAsk steps after lines = (i : ℕ) (line : LineReport) → slice_get lines i ≡ Some line → MayAsk (i + 1) steps after line

@@ -51,6 +51,7 @@ pub record IsLine (s : ℕ) (st : State) (steps : List Step) (line : LineReport)
   pub all_written : line.write_failed ≡ false → line.written.items ≡ frames (said_to s st steps)
   pub ended : MayEnd line.ended line.write_failed (was_shut s steps)
 
--- the lines of the sessions 1, 2, 3 and so on
+-- the lines of the sessions 1, 2, 3 and so on; of one that isn't whole nothing is said but whose it is
 abbrev pub AreLines : State → List Step → List LineReport → Type 0
-AreLines st steps lines = (i : ℕ) (line : LineReport) → slice_get lines i ≡ Some line → IsLine (i + 1) st steps line
+AreLines st steps lines =
+    (i : ℕ) (line : LineReport) → slice_get lines i ≡ Some line → (line.session ≡ i + 1) × (line.is_whole ≡ true → IsLine (i + 1) st steps line)

@@ -19,10 +19,10 @@ pub record Matches (write_failed : Bool) (written all : List ℕ) (matched : ℕ
   pub all_is : all ≡ front ++ missing
   pub ended : (missing ≡ []) ⊎ ((unmatched ≡ []) × (write_failed ≡ true))
 
--- of each line so many bytes are matched by the frames of what was said to its session
+-- of each line that is whole so many bytes are matched by the frames of what was said to its session
 pub record AreMatched (reports : List LineReport) (matched : List ℕ) (said : List Saying) : Type 0 where
   pub count : length matched ≡ length reports
-  pub each : (i : ℕ) (report : LineReport) (n : ℕ) → slice_get reports i ≡ Some report → slice_get matched i ≡ Some n
+  pub each : (i : ℕ) (report : LineReport) (n : ℕ) → slice_get reports i ≡ Some report → slice_get matched i ≡ Some n → report.is_whole ≡ true
       → Matches report.write_failed report.written.items (frames (answers_to (i + 1) said)) n
 
 -- what the line was written is the frames of what was said to the session, or where a write failed a first part of them
@@ -30,5 +30,9 @@ pub record IsWritten (s : ℕ) (said : List Saying) (line : LineReport) : Type 0
   pub begins : Begins line.written.items (frames (answers_to s said))
   pub all : line.write_failed ≡ false → line.written.items ≡ frames (answers_to s said)
 
+-- so it is, if the line is whole
+abbrev pub MayBeWritten : ℕ → List Saying → LineReport → Type 0
+MayBeWritten s said line = line.is_whole ≡ true → IsWritten s said line
+
 abbrev pub AreWritten : List LineReport → List Saying → Type 0
-AreWritten lines said = (i : ℕ) (line : LineReport) → slice_get lines i ≡ Some line → IsWritten (i + 1) said line
+AreWritten lines said = (i : ℕ) (line : LineReport) → slice_get lines i ≡ Some line → MayBeWritten (i + 1) said line

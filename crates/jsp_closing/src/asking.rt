@@ -1,9 +1,10 @@
 //! What a history's sessions ask, read again from the bytes of their lines.
-ghost use Rattle.std.specs.Prelude.{◌≡◌, ◌++◌, ◌∷◌, ℕ, [], None, map, IfOk, OnOk};
+ghost use Rattle.std.specs.Prelude.{◌≡◌, ◌++◌, ◌∷◌, ℕ, List, [], None, true, map, IfOk, OnOk};
 ghost use Rattle.jsp_reply.specs.declared.refusal.Refusal.TheVariants.{TooLong};
+ghost use Rattle.jsp_model.specs.declared.step.Step.{Step};
 ghost use Rattle.jsp_model.specs.declared.step.Step.TheVariants as step;
 ghost use Rattle.jsp_drive.specs.Giving.{Gave};
-ghost use Rattle.jsp_closing.specs.Asking.{HaveGiven, GivesInput, GiveStep, anything, unasked};
+ghost use Rattle.jsp_closing.specs.Asking.{HaveGiven, GivesInput, GiveStep, anything, asks_short, has_short_line, unasked, unasked_in};
 
 use crate::closed::{Fault, LineReport};
 use jsp_drive::{Line, LineInput, Next};
@@ -32,7 +33,8 @@ fn feed_line(alloc: Global, bytes: &[u8]) -> Result<Line, NoMemory>
     Ok(line)
 }
 
-/// The steps, with what the lines give in the place of each request and fault.
+/// The steps, with what the lines give in the place of each request and fault of a session whose line
+/// is whole. Those of the others stay.
 pub(crate) fn ask_again(
     alloc: Global,
     reports: &[LineReport],
@@ -41,15 +43,57 @@ pub(crate) fn ask_again(
 ) -> Result<Vec<Step>, Fault>
     requires { HaveGiven reports.now lines.old.items [] }
     ensures gave { IfOk result (λ asked. HaveGiven reports.now lines.new.items asked.items) }
-    ensures same { IfOk result (λ asked. map unasked asked.items ≡ map unasked steps.items) }
+    ensures same { IfOk result (λ asked. map (unasked_in reports.now) asked.items ≡ map (unasked_in reports.now) steps.items) }
 {
     let mut scratch = Scratch::new(alloc);
     let mut asked = Vec::new(alloc);
     for step in steps {
-        let again = step_again(lines, &mut scratch, step)?;
+        let again = next_step(reports, lines, &mut scratch, step)?;
         add_step(&mut asked, again)?;
     }
     Ok(asked)
+}
+
+// The step, with what is asked in it by a session whose line is whole as that gives it.
+fn next_step(
+    reports: &[LineReport],
+    lines: &mut Vec<Line>,
+    scratch: &mut Scratch,
+    step: Step,
+) -> Result<Step, Fault>
+    ensures gave { IfOk result (λ again. (steps : List Step) → HaveGiven reports.now lines.old.items steps
+        → HaveGiven reports.now lines.new.items (steps ++ again ∷ [])) }
+    ensures same { IfOk result (λ again. unasked_in reports.now again ≡ unasked_in reports.now step) }
+{
+    if asks_short(reports, &step) {
+        return Ok(step);
+    }
+    step_again(lines, scratch, step)
+}
+
+// Whether a session asks by the step whose line isn't whole.
+fn asks_short(reports: &[LineReport], step: &Step) -> bool
+    ensures { result ≡ asks_short reports.now step.now }
+{
+    match step {
+        Step::Ask { session, .. } => has_short_line(reports, *session),
+        Step::Fault { session, .. } => has_short_line(reports, *session),
+        _ => false,
+    }
+}
+
+// Whether the session's line isn't whole.
+fn has_short_line(reports: &[LineReport], session: u64) -> bool
+    ensures { result ≡ has_short_line reports.now session }
+{
+    if session == 0 {
+        return false;
+    }
+    let place = session as usize - 1;
+    if place >= reports.len() {
+        return false;
+    }
+    !reports[place].is_whole
 }
 
 fn add_step(steps: &mut Vec<Step>, step: Step) -> Result<(), NoMemory>

@@ -24,6 +24,9 @@ pub enum Ended {
 #[derive(Drop)]
 pub struct LineReport {
     pub session: u64,
+    /// No where its bytes weren't all kept for want of memory, or where a request or an answer of it
+    /// found no memory. Nothing is claimed of its bytes then, nor of how it ended.
+    pub is_whole: bool,
     pub ended: Ended,
     pub read: Vec<u8>,
     pub written: Vec<u8>,
@@ -35,7 +38,7 @@ pub struct LineReport {
 #[derive(Drop)]
 pub enum Closed {
     /// No era was sealed: the steps are the whole history, from the empty state. The lines are those
-    /// of its sessions, by their numbers.
+    /// of its sessions, by their numbers. Those that aren't whole were compared with nothing.
     Whole {
         steps: Vec<Step>,
         lines: Vec<LineReport>,

@@ -1,6 +1,6 @@
 //! The end of a history.
 ghost use Rattle.std.specs.Prelude.{◌≡◌, true, length, filter, map, IfOk, IfErr, IsPermutation, OnOk};
-ghost use Rattle.jsp_closing.specs.Asking.{HaveGiven, unasked};
+ghost use Rattle.jsp_closing.specs.Asking.{HaveGiven, unasked_in};
 ghost use Rattle.jsp_closing.specs.Checked.{AreRight};
 ghost use Rattle.jsp_closing.specs.Closing.{Closes, IsNoSpawn, IsOf, IsWhole, RestsAfter, opens};
 
@@ -15,7 +15,8 @@ use jsp_model::{Config, Step};
 use std::alloc::Global;
 
 /// The history that has ended, which its lines show to be right where no era was sealed. They may
-/// come in any order. The seed is for the replay, and whoever wrote to the lines shouldn't know it.
+/// come in any order, and there is one for each session. What those ask that aren't whole is taken
+/// as the history has it. The seed is for the replay, and whoever wrote to the lines shouldn't know it.
 ///
 /// The answer is `Audit` where they don't, and `NoMemory` where a growth was refused.
 pub fn close(
@@ -41,7 +42,7 @@ pub fn close(
     }
 }
 
-// A whole history, with what is asked in it as the lines say it, and these by session.
+// A whole history, with what is asked in it as the lines say it that are whole, and all by session.
 #[derive(Drop)]
 pub(crate) struct Whole {
     pub(crate) steps: Vec<Step>,
@@ -57,7 +58,7 @@ pub(crate) fn close_whole(
 ) -> Result<Whole, Fault>
     ensures whole { IfOk result (λ whole. IsWhole config.now whole.steps.items whole.lines.items) }
     ensures lines { IfOk result (λ whole. IsPermutation reports.items whole.lines.items) }
-    ensures steps { IfOk result (λ whole. map unasked whole.steps.items ≡ map unasked steps.items) }
+    ensures steps { IfOk result (λ whole. map (unasked_in whole.lines.items) whole.steps.items ≡ map (unasked_in whole.lines.items) steps.items) }
 {
     let mut reports = reports;
     reports.sort_by_key(|report| report.session)?;
@@ -77,7 +78,7 @@ pub(crate) fn close_whole(
     })
 }
 
-// Replays the steps, and compares them with the lines, which have given what is asked in them.
+// Replays the steps, and compares them with the lines. Those that are whole have given what is asked.
 fn check_whole(
     alloc: Global,
     config: &Config,

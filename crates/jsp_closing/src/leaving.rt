@@ -7,7 +7,7 @@ ghost use Rattle.jsp_drive.specs.Giving.{Gave};
 ghost use Rattle.jsp_closing.specs.declared.closed.Ended.TheVariants.{Cut};
 ghost use Rattle.jsp_closing.specs.Lines.{was_shut, MayEnd};
 ghost use Rattle.jsp_closing.specs.Asking.{HaveGiven, SaysMore};
-ghost use Rattle.jsp_closing.specs.Leaving.{AllAsk, AsksIn, Marks, TellShut};
+ghost use Rattle.jsp_closing.specs.Leaving.{AllAsk, Marks, MayAsk, TellShut};
 
 use crate::closed::{Ended, Fault, LineReport};
 use jsp_core::Core;
@@ -17,8 +17,8 @@ use jsp_model::Step;
 use jsp_types::NoMemory;
 use std::alloc::Global;
 
-/// Compares what is left on the lines with the state in which the steps end. They have given what is
-/// asked in the steps.
+/// Compares what is left on the lines that are whole with the state in which the steps end. They have
+/// given what is asked in the steps.
 pub(crate) fn check_lines(
     alloc: Global,
     state: &Core,
@@ -36,7 +36,7 @@ pub(crate) fn check_lines(
     Ok(())
 }
 
-// One line, which has given what its session asks in the steps.
+// One line, which has given what its session asks in the steps, if it is whole.
 fn check_line(
     state: &Core,
     session: u64,
@@ -45,10 +45,16 @@ fn check_line(
     line: &mut Line,
 ) -> Result<(), Fault>
     ensures { OnOk result ((steps : List Step) → shut ≡ was_shut session steps
-        → Gave session report.now.read.items (requests_of session steps) line.old
-        → AsksIn session steps state.now report.now) }
+        → (report.now.is_whole ≡ true → Gave session report.now.read.items (requests_of session steps) line.old)
+        → MayAsk session steps state.now report.now) }
 {
-    if report.session != session || !may_end(report.ended, report.write_failed, shut) {
+    if report.session != session {
+        return Err(Fault::Differs);
+    }
+    if !report.is_whole {
+        return Ok(());
+    }
+    if !may_end(report.ended, report.write_failed, shut) {
         return Err(Fault::Differs);
     }
     let more = says_more(line, report.read.as_slice())?;

@@ -1,5 +1,5 @@
 //! What lines were written, compared with the frames of what was said to their sessions.
-ghost use Rattle.std.specs.Prelude.{◌≡◌, ◌++◌, ℕ, List, [], ◌∷◌, replicate, IfOk, OnOk};
+ghost use Rattle.std.specs.Prelude.{◌≡◌, ◌++◌, ℕ, List, [], ◌∷◌, true, length, replicate, IfOk, OnOk};
 ghost use Rattle.jsp_reply.specs.declared.reply.Reply.{Reply};
 ghost use Rattle.jsp_model.specs.Answers.{Saying};
 ghost use Rattle.jsp_drive.specs.Heard.{framed};
@@ -11,7 +11,7 @@ use jsp_reply::Said;
 use jsp_types::NoMemory;
 use std::alloc::Global;
 
-/// Compares the bytes written to each line with what was said to its session.
+/// Compares the bytes written to each line that is whole with what was said to its session.
 pub(crate) fn check_written(
     alloc: Global,
     reports: &[LineReport],
@@ -21,14 +21,21 @@ pub(crate) fn check_written(
 {
     let matched = match_all(alloc, reports, said)?;
     for (i, report) in reports.iter().enumerate() {
-        if matched[i] != report.written.len() {
+        if !is_matched(report, matched[i]) {
             return Err(Fault::Differs);
         }
     }
     Ok(())
 }
 
-// How many of each line's bytes the frames match.
+// Whether so many bytes are all that were written to the line, or it isn't whole.
+fn is_matched(report: &LineReport, matched: usize) -> bool
+    ensures { result ≡ true → report.now.is_whole ≡ true → matched ≡ length report.now.written.items }
+{
+    !report.is_whole || matched == report.written.len()
+}
+
+// How many bytes of each line that is whole the frames match.
 fn match_all(
     alloc: Global,
     reports: &[LineReport],
@@ -71,12 +78,16 @@ fn match_frame(
     Ok(())
 }
 
-// Matches a frame with what was written from this place on, and answers the place behind it.
+// Matches a frame with what was written from this place on, and answers the place behind it. Of a
+// line that isn't whole nothing is matched.
 fn match_bytes(report: &LineReport, from: usize, frame: &[u8]) -> Result<usize, Fault>
-    ensures { IfOk result (λ behind. (all : List ℕ)
+    ensures { IfOk result (λ behind. (all : List ℕ) → report.now.is_whole ≡ true
         → Matches report.now.write_failed report.now.written.items all from
         → Matches report.now.write_failed report.now.written.items (all ++ frame.now) behind) }
 {
+    if !report.is_whole {
+        return Ok(from);
+    }
     let written = report.written.as_slice();
     if written.len() < from {
         return Err(Fault::Differs);

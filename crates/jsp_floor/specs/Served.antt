@@ -1,5 +1,5 @@
 -- What the threads of a run answer.
-use Rattle.std.specs.Prelude.{◌≡◌, ◌⊎◌, ℕ, Bool, List, [], ◌∷◌, ◌++◌, Option, Some, None, Vec}
+use Rattle.std.specs.Prelude.{◌≡◌, ◌⊎◌, ◌&&◌, not, ℕ, Bool, true, false, List, [], ◌∷◌, ◌++◌, Option, Some, None, Vec}
 use Rattle.std.specs.declared.alloc.Global.{Global}
 use Rattle.jsp_closing.specs.declared.closed.Ended.{Ended}
 use Rattle.jsp_line.specs.declared.half.Health.{Health}
@@ -23,25 +23,39 @@ noted known fault.Audit = Some fault.Audit
 noted None met = Some met
 noted (Some first) met = Some first
 
+-- that a call found no memory is no fault of the run
 abbrev pub noted_stop : Option RunFault → Option Why → Option RunFault
 noted_stop known None = known
+noted_stop known (Some why.NoMemory) = known
 noted_stop known (Some why) = noted known (fault_of why)
 
-abbrev pub noted_health : Option RunFault → Health → Option RunFault
-noted_health known health.NoMemory = noted known fault.NoMemory
-noted_health known health.Failed = known
-noted_health known health.Sound = known
+-- the faults that the two threads of a line met
+abbrev pub noted_line : Option RunFault → Option Why → Option Why → Option RunFault
+noted_line known read other = noted_stop (noted_stop known read) other
 
--- the faults that a line met: those of its two threads, and that an answer found no memory
-abbrev pub noted_line : Option RunFault → Option Why → Option Why → Health → Option RunFault
-noted_line known read other health = noted_health (noted_stop (noted_stop known read) other) health
+abbrev pub is_short : Option Why → Bool
+is_short (Some why.NoMemory) = true
+is_short _ = false
 
--- what is reported of a line
-abbrev pub report_of : ℕ → Ended → Vec ℕ Global → Vec ℕ Global → Bool → Bool → LineReport
-report_of session ended read written read_failed write_failed =
-    record { session = session; ended = ended; read = read; written = written; read_failed = read_failed; write_failed = write_failed }
+abbrev pub has_answered : Health → Bool
+has_answered health.NoMemory = false
+has_answered _ = true
+
+-- each call of a line's two threads found memory, and so did each answer
+abbrev pub found_memory : Option Why → Option Why → Health → Bool
+found_memory read other health = not (is_short read) && (not (is_short other) && has_answered health)
+
+-- what is reported of a line whose bytes were kept
+abbrev pub report_of : ℕ → Bool → Ended → Vec ℕ Global → Vec ℕ Global → Bool → Bool → LineReport
+report_of session whole ended read written read_failed write_failed =
+    record { session = session; is_whole = whole; ended = ended; read = read; written = written; read_failed = read_failed; write_failed = write_failed }
 
 -- the report stands behind the others, or there was no memory for it, which is a fault
 abbrev pub Adds : List LineReport → List LineReport → Option RunFault → Option RunFault → LineReport → Type 0
 Adds old new fault_old fault_new report =
     ((new ≡ old ++ report ∷ []) × (fault_new ≡ fault_old)) ⊎ ((new ≡ old) × (fault_new ≡ noted fault_old fault.NoMemory))
+
+-- so does one of this session that isn't whole
+abbrev pub AddsShort : List LineReport → List LineReport → Option RunFault → Option RunFault → ℕ → Type 0
+AddsShort old new fault_old fault_new session =
+    (report : LineReport) × (report.session ≡ session) × (report.is_whole ≡ false) × Adds old new fault_old fault_new report

@@ -25,7 +25,7 @@ pub(crate) fn finish<H: House, A: Ledger, O: Ledger, T: Wait>(
     ensures closes { IfOk result (Closes config.now) }
     ensures finishes { IfOk result (Finishes kept served.reports.items) }
 {
-    let Served { reports, fault } = served;
+    let Served { reports, fault, .. } = served;
     if let Some(fault) = fault {
         return Err(fault);
     }

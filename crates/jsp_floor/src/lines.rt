@@ -61,6 +61,13 @@ impl<X: Hangup + Drop> Lines<X> {
         self.progress.lock(rt).lines.len() as u64
     }
 
+    /// Whether there is memory to note one line more, and what it will have read and written.
+    pub(crate) fn make_room<T: Wait>(&self, rt: &T) -> bool {
+        let mut progress = self.progress.lock(rt);
+        let count = progress.lines.len().saturating_add(1);
+        progress.lines.reserve(1).is_ok() && progress.served.make_room(count)
+    }
+
     /// A line begins to be served. No where there is no memory to note it.
     pub(crate) fn enter<T: Wait>(&self, rt: &T, session: u64, hangup: &Arc<X>) -> bool {
         let Ok(hangup) = Arc::try_clone(hangup) else {
@@ -70,15 +77,16 @@ impl<X: Hangup + Drop> Lines<X> {
         self.progress.lock(rt).lines.push(line).is_ok()
     }
 
-    /// A line has ended.
+    /// A line has ended. Once an era was sealed nothing is kept of what it read and wrote.
     pub(crate) fn leave<A: Ledger, O: Ledger, R: Read + Drop, W: Write + Drop, T: Wait>(
         &self,
         rt: &T,
         done: LineDone<A, O, R, W>,
+        is_sealed: bool,
     ) {
         let session = done.read.seat.session();
         let mut progress = self.progress.lock(rt);
-        progress.served.add_line(done);
+        progress.served.add_line(done, is_sealed);
         progress.lines.retain(|line| line.session != session);
         if progress.lines.is_empty() {
             self.none.notify_all();
@@ -118,6 +126,11 @@ impl<X: Hangup + Drop> Lines<X> {
                 line.hangup.hang_up();
             }
         }
+    }
+
+    /// A session was opened for whose line there was no memory.
+    pub(crate) fn lose<T: Wait>(&self, rt: &T, session: u64) {
+        self.progress.lock(rt).served.add_short(session);
     }
 
     /// Notes a fault that was met beside the lines.

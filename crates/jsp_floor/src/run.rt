@@ -106,15 +106,14 @@ impl<
     C: Clock + Sync,
     T: Threads + Wait + time::Clock + Sync,
 > Server<'_, '_, H, A, O, X, G, C, T> {
-    // Opens the session of a line that has come, unless as many are served as may be at once: its connection is
-    // closed then.
+    // Opens the session of a line that has come, unless as many are served as may be at once, or memory is wanting: its
+    // connection is closed then.
     fn welcome<R: Drop, W: Drop>(&self, reader: R, writer: W, hangup: X) -> Guest<A, O, R, W, X> {
         let rt = self.shared.rt;
-        if self.lines.is_full(rt) {
+        if self.lines.is_full(rt) || !self.lines.make_room(rt) {
             return Guest::Refused;
         }
         let Ok(hangup) = Arc::new(self.shared.alloc, hangup) else {
-            self.lines.fail(rt, RunFault::NoMemory);
             return Guest::Refused;
         };
         let (asks, outs) = match self.shared.floor.begin(rt) {
@@ -127,7 +126,7 @@ impl<
         let session = asks.session();
         if !self.lines.enter(rt, session, &hangup) {
             self.shared.floor.shut(rt, session);
-            self.lines.fail(rt, RunFault::NoMemory);
+            self.lines.lose(rt, session);
             return Guest::Refused;
         }
         Guest::Line(Caller {
@@ -185,7 +184,8 @@ impl<
         } else {
             shared.turn_away(reader, writer, &*hangup, asks, outs)
         };
-        self.lines.leave(shared.rt, done);
+        let is_sealed = shared.floor.has_sealed(shared.rt);
+        self.lines.leave(shared.rt, done, is_sealed);
     }
 
     // Serves all lines of the door, each in a thread of its own, and settles meanwhile. A line for

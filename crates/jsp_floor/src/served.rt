@@ -1,10 +1,10 @@
 //! What a run's lines read and wrote, and the faults that were met.
-ghost use Rattle.std.specs.Prelude.{◌≡◌, ◌⊎◌, ℕ, [], nat_lt, IfNone, IfSome, Vec};
+ghost use Rattle.std.specs.Prelude.{◌≡◌, ◌⊎◌, ℕ, [], false, true, nat_lt, IfNone, IfSome, Vec};
 ghost use Rattle.std.specs.declared.alloc.Global.{Global};
 ghost use Rattle.jsp_line.specs.declared.transcript.Transcript.TheVariants.{Dropped, Whole};
-ghost use Rattle.jsp_floor.specs.Served.{Adds, fault_of, noted, noted_line, noted_stop, report_of};
+ghost use Rattle.jsp_floor.specs.Served.{Adds, AddsShort, fault_of, found_memory, is_short, noted, noted_line, noted_stop, report_of};
 
-use jsp_closing::{LineReport, RunFault};
+use jsp_closing::{Ended, LineReport, RunFault};
 use jsp_line::{Counted, Health, LineDone, OutDone, ReadDone};
 use jsp_model::Why;
 use std::alloc::Global;
@@ -16,6 +16,7 @@ use std::sync::ledger::Ledger;
 pub(crate) struct Served {
     pub(crate) reports: Vec<LineReport>,
     pub(crate) fault: Option<RunFault>,
+    alloc: Global,
 }
 
 /// What a call that was stopped makes of a run.
@@ -29,13 +30,29 @@ pub(crate) fn fault_of(why: Why) -> RunFault
     }
 }
 
-// What a line read and wrote, unless its bytes weren't all kept: an era was sealed, or memory was wanting.
+// Whether a call found no memory.
+fn is_short(why: Option<Why>) -> bool
+    ensures { result ≡ is_short why }
+{
+    matches!(why, Some(Why::NoMemory))
+}
+
+// Whether each call of a line's two threads found memory, and so did each answer.
+fn has_found_memory(read: Option<Why>, other: Option<Why>, health: Health) -> bool
+    ensures { result ≡ found_memory read other health }
+{
+    !is_short(read) && !is_short(other) && health != Health::NoMemory
+}
+
+// What a line read and wrote, where its bytes were all kept. It is whole where it found memory besides.
 fn report<A: Ledger, O: Ledger, R: Read + Drop, W: Write + Drop>(
+    is_whole: bool,
     reader: Counted<R>,
     read: ReadDone<A>,
     out: OutDone<O, W>,
 ) -> Option<LineReport>
     ensures session { IfSome result (λ report. report.session ≡ read.seat.session) }
+    ensures is_whole { IfSome result (λ report. report.is_whole ≡ is_whole) }
     ensures ended { IfSome result (λ report. report.ended ≡ read.ended) }
     ensures read { IfSome result (λ report. read.transcript ≡ Whole report.read) }
     ensures written { IfSome result (λ report. out.transcript ≡ Whole report.written) }
@@ -48,6 +65,7 @@ fn report<A: Ledger, O: Ledger, R: Read + Drop, W: Write + Drop>(
     let written = out.transcript.into_bytes()?;
     Some(LineReport {
         session,
+        is_whole,
         ended: read.ended,
         read: bytes,
         written,
@@ -56,11 +74,28 @@ fn report<A: Ledger, O: Ledger, R: Read + Drop, W: Write + Drop>(
     })
 }
 
+// The report of a line of which not all is known.
+fn short_report(alloc: Global, session: u64) -> LineReport
+    ensures session { result.session ≡ session }
+    ensures is_whole { result.is_whole ≡ false }
+{
+    LineReport {
+        session,
+        is_whole: false,
+        ended: Ended::Stopped,
+        read: Vec::new(alloc),
+        written: Vec::new(alloc),
+        read_failed: false,
+        write_failed: false,
+    }
+}
+
 impl Served {
     pub(crate) fn new(alloc: Global) -> Served {
         Served {
             reports: Vec::new(alloc),
             fault: None,
+            alloc,
         }
     }
 
@@ -74,42 +109,53 @@ impl Served {
         }
     }
 
-    /// Notes why a call was stopped, where one was.
+    /// Notes why a call was stopped, where one was. Want of memory is no fault.
     pub(crate) fn stop(&mut self, why: Option<Why>)
         ensures fault { self.new.fault ≡ noted_stop self.old.fault why }
         ensures reports { self.new.reports ≡ self.old.reports }
     {
-        if let Some(why) = why {
-            self.fail(fault_of(why));
+        match why {
+            None | Some(Why::NoMemory) => {}
+            Some(why) => self.fail(fault_of(why)),
         }
     }
 
-    // Adds a report, or none is kept any more.
-    fn add_report(&mut self, report: Option<LineReport>)
-        ensures some { IfSome report (λ one. Adds self.old.reports.items self.new.reports.items self.old.fault self.new.fault one) }
-        ensures none { IfNone report ((self.new.reports.items ≡ []) × (self.new.fault ≡ self.old.fault)) }
+    /// Whether there is memory for so many reports more.
+    pub(crate) fn make_room(&mut self, count: usize) -> bool
+        ensures fault { self.new.fault ≡ self.old.fault }
+        ensures reports { self.new.reports.items ≡ self.old.reports.items }
     {
-        match report {
-            Some(report) => {
-                if self.reports.push(report).is_err() {
-                    self.fail(RunFault::NoMemory);
-                }
-            }
-            None => self.reports.clear(),
+        self.reports.reserve(count).is_ok()
+    }
+
+    // Adds a report.
+    fn add_report(&mut self, report: LineReport)
+        ensures { Adds self.old.reports.items self.new.reports.items self.old.fault self.new.fault report }
+    {
+        if self.reports.push(report).is_err() {
+            self.fail(RunFault::NoMemory);
         }
     }
 
-    /// Adds what a line read and wrote, and the faults that it met. Where its bytes weren't all kept, no report is
-    /// kept any more.
+    /// Adds a report of a session of whose line not all is known, since memory was wanting.
+    pub(crate) fn add_short(&mut self, session: u64)
+        ensures { AddsShort self.old.reports.items self.new.reports.items self.old.fault self.new.fault session }
+    {
+        self.add_report(short_report(self.alloc, session));
+    }
+
+    /// Adds what a line read and wrote, and the faults that it met. Once an era was sealed no report is kept.
     pub(crate) fn add_line<A: Ledger, O: Ledger, R: Read + Drop, W: Write + Drop>(
         &mut self,
         done: LineDone<A, O, R, W>,
+        is_sealed: bool,
     )
-        ensures kept { (read written : Vec ℕ Global) → done.read.transcript ≡ Whole read → done.out.transcript ≡ Whole written
-            → Adds self.old.reports.items self.new.reports.items (noted_line self.old.fault done.read.why done.why done.out.health) self.new.fault
-            (report_of done.read.seat.session done.read.ended read written (nat_lt 0 done.reader.failures) (nat_lt 0 done.out.writer.failures)) }
-        ensures dropped { (done.read.transcript ≡ Dropped) ⊎ (done.out.transcript ≡ Dropped)
-            → (self.new.reports.items ≡ []) × (self.new.fault ≡ noted_line self.old.fault done.read.why done.why done.out.health) }
+        ensures kept { (read written : Vec ℕ Global) → is_sealed ≡ false → done.read.transcript ≡ Whole read → done.out.transcript ≡ Whole written
+            → Adds self.old.reports.items self.new.reports.items (noted_line self.old.fault done.read.why done.why) self.new.fault
+            (report_of done.read.seat.session (found_memory done.read.why done.why done.out.health) done.read.ended read written (nat_lt 0 done.reader.failures) (nat_lt 0 done.out.writer.failures)) }
+        ensures dropped { is_sealed ≡ false → (done.read.transcript ≡ Dropped) ⊎ (done.out.transcript ≡ Dropped)
+            → AddsShort self.old.reports.items self.new.reports.items (noted_line self.old.fault done.read.why done.why) self.new.fault done.read.seat.session }
+        ensures sealed { is_sealed ≡ true → (self.new.reports.items ≡ []) × (self.new.fault ≡ noted_line self.old.fault done.read.why done.why) }
     {
         let LineDone {
             reader,
@@ -119,9 +165,15 @@ impl Served {
         } = done;
         self.stop(read.why);
         self.stop(why);
-        if out.health == Health::NoMemory {
-            self.fail(RunFault::NoMemory);
+        if is_sealed {
+            self.reports.clear();
+            return;
         }
-        self.add_report(report(reader, read, out));
+        let session = read.seat.session();
+        let is_whole = has_found_memory(read.why, why, out.health);
+        match report(is_whole, reader, read, out) {
+            Some(report) => self.add_report(report),
+            None => self.add_short(session),
+        }
     }
 }

@@ -293,6 +293,11 @@ impl<H: Backlog, A: Ledger, O: Ledger> Floor<H, A, O> {
         })
     }
 
+    /// Whether an era was sealed, so that nobody asks for what lines read and wrote.
+    pub fn has_sealed<T: Wait>(&self, rt: &T) -> bool {
+        self.kept.lock(rt).is_sealed()
+    }
+
     /// Opens a session, and answers its two seats.
     pub fn begin<T: Wait>(&self, rt: &T) -> Result<(AskSeat<A>, OutSeat<O>), Stopped>
         ensures { IfOk result (λ s. IsSeated s.0 s.1) }

@@ -113,7 +113,8 @@ impl Server {
         }
     }
 
-    /// Says where it listens, and serves. At its end it says on standard error what was compared.
+    /// Says where it listens, and serves. At its end it says on standard error what was compared. The status is 1 where
+    /// a line wasn't, for want of memory.
     pub(crate) fn serve<
         R: AllocGlobal + Print + Eprint + Clock + Files<File = File> + Threads + Wait + Sync,
     >(self, rt: &R) -> Result<ExitCode, Fault> {
@@ -144,10 +145,14 @@ impl Server {
             VERSION,
             board,
         )?;
-        match say_compared(rt, &closed) {
-            Ok(()) => Ok(ExitCode::SUCCESS),
-            Err(_) => Err(Fault::Write),
+        if say_compared(rt, &closed).is_err() {
+            return Err(Fault::Write);
         }
+        Ok(if is_compared(&closed) {
+            ExitCode::SUCCESS
+        } else {
+            ExitCode::FAILURE
+        })
     }
 }
 
@@ -259,39 +264,53 @@ fn say_where(rt: &impl Print, listener: &TcpListener, window: &Option<Window>) -
     io::writer(rt).flush()
 }
 
-/// Says what of the history was compared with what the lines read and wrote, and to whom not all was
-/// written.
+/// Whether nothing is left that memory was wanting to compare.
+fn is_compared(closed: &Closed) -> bool {
+    match closed {
+        Closed::Whole { lines, .. } => lines.iter().all(|line| line.is_whole),
+        Closed::Sealed { .. } => true,
+    }
+}
+
+/// Says what of the history was compared with what the lines read and wrote, and what wasn't, and to
+/// whom not all was written.
 fn say_compared(rt: &impl Eprint, closed: &Closed) -> io::Result<()> {
     match closed {
         Closed::Whole { lines, .. } => {
-            eprintln!(rt; "jsp: compared {} lines", lines.len())?;
-            say_cut(rt, lines.as_slice())
+            let lines = lines.as_slice();
+            let count = lines.iter().filter(|line| line.is_whole).count();
+            eprintln!(rt; "jsp: compared {count} lines")?;
+            say_sessions(rt, "not compared, since memory was short", lines, |line| {
+                !line.is_whole
+            })?;
+            // Their clients broke off, or didn't read.
+            say_sessions(rt, "cut short", lines, |line| {
+                line.is_whole && line.write_failed
+            })
         }
         Closed::Sealed { .. } => eprintln!(rt; "jsp: not compared: an era was sealed"),
     }
 }
 
-/// Names the sessions whose answers were cut short: their clients broke off, or didn't read.
-fn say_cut(rt: &impl Eprint, lines: &[LineReport]) -> io::Result<()> {
-    let mut count = 0;
-    for line in lines {
-        if line.write_failed {
-            if count < NAMED {
-                let before = if count == 0 {
-                    "jsp: cut short: session"
-                } else {
-                    ","
-                };
-                eprint!(rt; "{before} {}", line.session)?;
-            }
-            count += 1;
-        }
+/// Names the sessions of the lines of which something is so, if there are any, and says what is so.
+fn say_sessions(
+    rt: &impl Eprint,
+    what: &str,
+    lines: &[LineReport],
+    is_so: impl Fn(&LineReport) -> bool,
+) -> io::Result<()> {
+    let count = lines.iter().filter(|line| is_so(line)).count();
+    if count == 0 {
+        return Ok(());
+    }
+    eprint!(rt; "jsp: {what}: session")?;
+    let mut before = " ";
+    for line in lines.iter().filter(|line| is_so(line)).take(NAMED) {
+        eprint!(rt; "{before}{}", line.session)?;
+        before = ", ";
     }
     if count > NAMED {
         eprint!(rt; " and {} more", count - NAMED)?;
     }
-    if count > 0 {
-        eprintln!(rt; "")?;
-    }
-    Ok(())
+    eprintln!(rt; "")
 }

@@ -6,16 +6,19 @@ use Rattle.jsp_closing.specs.Lines.{MayEnd}
 use Rattle.jsp_closing.proofs.leaving.check_line.Goals as goal
 
 pub returns : goal.returns
-returns c = λ steps shut gave.
-    let s = c.args.session in
-    let asked = requests_of s steps in
-    record {
-      session = omega (arith, c.if-report-session.false);
-      more = c.in_ok-more.more;
-      says = subst (λ (read : List ℕ). Gave s read asked c.args.line.now → SaysMore s read asked c.in_ok-more.more) c.as_slice.ensures.value (c.in_ok-more.ensures s asked) gave;
-      may_leave = λ sound. elim (c.may_leave.ensures c.if-not-may_leave.false sound) [
-        | inl none ↦ inl none
-        | inr more ↦ elim more [ inl itself ↦ inr (inl (itself.0, sym shut ∙ itself.1)) | inr cut ↦ inr (inr (record { cut = cut.0; shut = sym shut ∙ cut.1 })) ]
-      ];
-      ended = subst (λ (b : Bool). MayEnd c.args.report.now.ended c.args.report.now.write_failed b) shut (c.may_end.ensures c.if-not-may_end.false);
-    }
+returns c = λ steps shut gave. (
+  omega (arith, c.if-report-session.false),
+  λ whole.
+      let s = c.args.session in
+      let asked = requests_of s steps in
+      record {
+        session = omega (arith, c.if-report-session.false);
+        more = c.in_ok-more.more;
+        says = subst (λ (read : List ℕ). Gave s read asked c.args.line.now → SaysMore s read asked c.in_ok-more.more) c.as_slice.ensures.value (c.in_ok-more.ensures s asked) (gave whole);
+        may_leave = λ sound. elim (c.may_leave.ensures c.if-not-may_leave.false sound) [
+          | inl none ↦ inl none
+          | inr more ↦ elim more [ inl itself ↦ inr (inl (itself.0, sym shut ∙ itself.1)) | inr cut ↦ inr (inr (record { cut = cut.0; shut = sym shut ∙ cut.1 })) ]
+        ];
+        ended = subst (λ (b : Bool). MayEnd c.args.report.now.ended c.args.report.now.write_failed b) shut (c.may_end.ensures c.if-not-may_end.false);
+      },
+)

@@ -3,7 +3,7 @@ use Rattle.std.specs.Prelude.{Some, slice_get}
 use Rattle.std.proofs.lemmas.List.{length-set}
 use Rattle.std.proofs.lemmas.Option.{slice_get_read}
 use Rattle.jsp_closing.specs.declared.closed.LineReport.{LineReport}
-use Rattle.jsp_closing.specs.Leaving.{AsksIn}
+use Rattle.jsp_closing.specs.Leaving.{MayAsk}
 use Rattle.jsp_closing.proofs.Places.{set_elsewhere, each_more, each_all}
 use Rattle.jsp_closing.proofs.leaving.check_lines.Goals as goal
 
@@ -20,12 +20,12 @@ loop-i-preserved c =
     let at_flag : slice_get c.in_ok-shut.shut.items i ≡ Some flag = slice_get_read c.in_ok-shut.shut.items (length reports) i flag (sym c.in_ok-shut.ensures.count) c.loop-i-test.true c.index.ensures in
     let at_line : slice_get lines i ≡ Some line = slice_get_read lines (length reports) i line (sym h.0) c.loop-i-test.true c.index_mut.ensures.value in
     let first : slice_get c.args.lines.now.items i ≡ Some line = sym (h.1 i (omega arith)) ∙ at_line in
-    let asks = c.in_ok-check_line.ensures c.args.steps.now (c.in_ok-shut.ensures.tell i flag at_flag) (c.requires.gave i report line here first) in (
+    let asks = c.in_ok-check_line.ensures c.args.steps.now (c.in_ok-shut.ensures.tell i flag at_flag) (λ whole. c.requires.gave i report line here first whole) in (
       length-set lines i c.check_line.new.line ∙ h.0,
       λ j after. set_elsewhere lines i j c.check_line.new.line (λ same. omega (arith, after, same)) ∙ h.1 j (omega (arith, after)),
-      each_more (λ (j : ℕ) (r : LineReport). AsksIn (j + 1) c.args.steps.now c.args.state.now r) reports i report h.2 here asks,
+      each_more (λ (j : ℕ) (r : LineReport). MayAsk (j + 1) c.args.steps.now c.args.state.now r) reports i report h.2 here asks,
     )
 
 pub returns : goal.returns
 returns c =
-    each_all (λ (j : ℕ) (r : LineReport). AsksIn (j + 1) c.args.steps.now c.args.state.now r) c.args.reports.now c.loop-i.i (omega arith) c.loop-i.invariant.2
+    each_all (λ (j : ℕ) (r : LineReport). MayAsk (j + 1) c.args.steps.now c.args.state.now r) c.args.reports.now c.loop-i.i (omega arith) c.loop-i.invariant.2

@@ -2,7 +2,7 @@ use Rattle.std.proofs.Common.{◌≡◌, ℕ, ◌+◌, length, refl, sym, arith}
 use Rattle.std.specs.Prelude.{Some, slice_get}
 use Rattle.std.proofs.lemmas.Option.{slice_get_read}
 use Rattle.jsp_closing.specs.declared.closed.LineReport.{LineReport}
-use Rattle.jsp_closing.specs.Writing.{IsWritten}
+use Rattle.jsp_closing.specs.Writing.{MayBeWritten}
 use Rattle.jsp_closing.proofs.Places.{each_more, each_all}
 use Rattle.jsp_closing.proofs.Tallies.{is_written}
 use Rattle.jsp_closing.proofs.writing.check_written.Goals as goal
@@ -17,9 +17,8 @@ loop-i-preserved c =
     let h = c.in_ok-matched.ensures in
     let here : slice_get reports i ≡ Some report = slice_get_read reports (length reports) i report refl c.loop-i-test.true c.index-reports-i.is in
     let there : slice_get matched i ≡ Some n = slice_get_read matched (length reports) i n (sym h.count) c.loop-i-test.true c.index.ensures in
-    let whole : n ≡ length report.written.items = omega (arith, c.if-index-len.false, c.len.ensures, report.written.ok.0) in
-    each_more (λ (j : ℕ) (r : LineReport). IsWritten (j + 1) c.args.said.now r) reports i report c.loop-i.invariant here
-    (is_written (i + 1) c.args.said.now report n (h.each i report n here there) whole)
+    each_more (λ (j : ℕ) (r : LineReport). MayBeWritten (j + 1) c.args.said.now r) reports i report c.loop-i.invariant here
+    (λ whole. is_written (i + 1) c.args.said.now report n (h.each i report n here there whole) (c.is_matched.ensures c.if-not-is_matched.false whole))
 
 pub returns : goal.returns
-returns c = each_all (λ (j : ℕ) (r : LineReport). IsWritten (j + 1) c.args.said.now r) c.args.reports.now c.loop-i.i (omega arith) c.loop-i.invariant
+returns c = each_all (λ (j : ℕ) (r : LineReport). MayBeWritten (j + 1) c.args.said.now r) c.args.reports.now c.loop-i.i (omega arith) c.loop-i.invariant

@@ -5,14 +5,14 @@ use Rattle.std.proofs.lemmas.Slice.Eq.{bytes_eq-Decides}
 use Rattle.jsp_closing.specs.Writing.{Matches}
 use Rattle.jsp_closing.proofs.Tallies.{matches_more}
 use Rattle.jsp_closing.proofs.writing.match_bytes.Goals as goal
-use Rattle.jsp_closing.proofs.writing.match_bytes.Goals.{else-count-frame-via-then-count-frame+else-not-report, else-count-frame-via-else-count-frame}
+use Rattle.jsp_closing.proofs.writing.match_bytes.Goals.{else-count-frame-via-then-count-frame+else-not-report-2, else-count-frame-via-else-count-frame}
 
 true_from : (b : Bool) → false ≡ not b → b ≡ true
 true_from true e = refl
 true_from false e = absurd (cc)
 
 pub returns : goal.returns
-returns c = λ all h.
+returns c = λ all whole h.
     let written = c.as_slice-written.result.now in
     let failed = c.args.report.now.write_failed in
     let from = c.args.from in
@@ -26,7 +26,7 @@ returns c = λ all h.
     let in_frame : n ≤ length frame = omega (arith, c.min-count.ensures) in
     let in_rest : n ≤ length (drop from written) = omega (arith, c.min-count.ensures, lengths) in
     let short : n < length frame → (length (drop from written) ≤ n) × (failed ≡ true) = λ less. elim c.else-count-frame.branch [
-      | else-count-frame-via-then-count-frame+else-not-report w ↦ (omega (arith, less, c.min-count.ensures, lengths), w.if-not-report.false)
+      | else-count-frame-via-then-count-frame+else-not-report-2 w ↦ (omega (arith, less, c.min-count.ensures, lengths), w.if-not-report-2.false)
       | else-count-frame-via-else-count-frame w ↦ absurd (omega (arith, less, w.if-count-frame.false))
     ] in
     subst (λ (xs : List ℕ). Matches failed xs all from → Matches failed xs (all ++ frame) (from + n)) c.as_slice-written.ensures.value

@@ -1,0 +1,13 @@
+use Rattle.std.proofs.Common.{sym, ◌∙◌}
+use Rattle.std.proofs.lemmas.Result.{IfOk-weaker}
+use Rattle.jsp_closing.proofs.Rereading.{again_same, given_left, given_more}
+use Rattle.jsp_closing.proofs.asking.next_step.Goals as goal
+
+pub returns-then-asks_short-clause-gave : goal.returns-then-asks_short-clause-gave
+returns-then-asks_short-clause-gave c = λ steps h. given_left c.args.reports.now _ steps c.args.step h (sym c.asks_short.ensures ∙ c.if-asks_short.true)
+
+pub returns-clause-gave : goal.returns-clause-gave
+returns-clause-gave c = IfOk-weaker c.step_again.result _ _ (λ again one steps h. given_more c.args.reports.now _ _ steps again h one) c.step_again.ensures.gave
+
+pub returns-clause-same : goal.returns-clause-same
+returns-clause-same c = IfOk-weaker c.step_again.result _ _ (λ again same. again_same c.args.reports.now c.args.step again (sym c.asks_short.ensures ∙ c.if-asks_short.false) same) c.step_again.ensures.same
