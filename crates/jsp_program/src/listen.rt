@@ -280,34 +280,56 @@ fn say_compared(rt: &impl Eprint, closed: &Closed) -> io::Result<()> {
             let lines = lines.as_slice();
             let count = lines.iter().filter(|line| line.is_whole).count();
             eprintln!(rt; "jsp: compared {count} lines")?;
-            say_sessions(rt, "not compared, since memory was short", lines, |line| {
-                !line.is_whole
-            })?;
-            // Their clients broke off, or didn't read.
-            say_sessions(rt, "cut short", lines, |line| {
-                line.is_whole && line.write_failed
-            })
+            say_sessions(
+                rt,
+                "not compared, since memory was short",
+                lines,
+                Fate::Short,
+            )?;
+            say_sessions(rt, "cut short", lines, Fate::Cut)
         }
         Closed::Sealed { .. } => eprintln!(rt; "jsp: not compared: an era was sealed"),
     }
 }
 
-/// Names the sessions of the lines of which something is so, if there are any, and says what is so.
-fn say_sessions(
-    rt: &impl Eprint,
-    what: &str,
-    lines: &[LineReport],
-    is_so: impl Fn(&LineReport) -> bool,
-) -> io::Result<()> {
-    let count = lines.iter().filter(|line| is_so(line)).count();
+/// What became of a line.
+#[derive(Clone, Copy, PartialEq, Eq)]
+enum Fate {
+    /// All that was said to it was written.
+    Written,
+    /// Its client broke off, or didn't read.
+    Cut,
+    /// Memory was wanting, so that it wasn't compared.
+    Short,
+}
+
+fn fate_of(line: &LineReport) -> Fate {
+    if !line.is_whole {
+        return Fate::Short;
+    }
+    if line.write_failed {
+        Fate::Cut
+    } else {
+        Fate::Written
+    }
+}
+
+/// Names the sessions of the lines of which this became, if there are any, and says what it is.
+fn say_sessions(rt: &impl Eprint, what: &str, lines: &[LineReport], fate: Fate) -> io::Result<()> {
+    let count = lines.iter().filter(|line| fate_of(line) == fate).count();
     if count == 0 {
         return Ok(());
     }
     eprint!(rt; "jsp: {what}: session")?;
-    let mut before = " ";
-    for line in lines.iter().filter(|line| is_so(line)).take(NAMED) {
-        eprint!(rt; "{before}{}", line.session)?;
-        before = ", ";
+    let named = lines
+        .iter()
+        .filter(|line| fate_of(line) == fate)
+        .take(NAMED);
+    for (place, line) in named.enumerate() {
+        if place > 0 {
+            eprint!(rt; ",")?;
+        }
+        eprint!(rt; " {}", line.session)?;
     }
     if count > NAMED {
         eprint!(rt; " and {} more", count - NAMED)?;

@@ -31,14 +31,14 @@ fn can_start<R: Threads + Wait + Sync>(rt: &R, count: usize) -> bool {
     let gate = Mutex::new(());
     thread::scope(thread::scope_env(), rt, |scope| -> bool {
         let closed = gate.lock(rt);
-        let mut started = 0;
+        let mut have_started = true;
         for _ in 0..count {
             if scope.spawn(|| drop(gate.lock(rt))).is_err() {
+                have_started = false;
                 break;
             }
-            started += 1;
         }
         drop(closed);
-        started == count
+        have_started
     })
 }
