@@ -285,17 +285,6 @@ def holds_itself(count):
     return script, txn
 
 
-def before_it_searches(count):
-    return holds_itself(count)[0]
-
-
-def it_searches(count):
-    script, txn = holds_itself(count)
-    for _ in range(TRANSFERS):
-        script.find("read", None, txn=txn)
-    return script
-
-
 def read_by_itself(count):
     """A transaction has read the oldest entry. Beside it stand so many that have its one value, and as many that have
     its other."""
@@ -309,15 +298,20 @@ def read_by_itself(count):
     return script, txn
 
 
-def before_it_reads(count):
-    return read_by_itself(count)[0]
+def begun(hold):
+    """A transaction that holds what it does, before it reads."""
+    return lambda count: hold(count)[0]
 
 
-def it_reads_again(count):
-    script, txn = read_by_itself(count)
-    for _ in range(TRANSFERS):
-        script.find("read", 1, who=1, txn=txn)
-    return script
+def read_by_holder(hold, value, **fields):
+    """The same, which reads then."""
+    def script_of(count):
+        script, txn = hold(count)
+        for _ in range(TRANSFERS):
+            script.find("read", value, txn=txn, **fields)
+        return script
+
+    return script_of
 
 
 def open_sets(script, txn=None):
@@ -416,10 +410,10 @@ def rows():
         yield name, (0, 1_000, 10_000, 60_000), holding(operation), held_beside(operation), TRANSFERS
     yield "a read under a transaction that holds so many entries, beside 30,000 that another wrote", (
         10, 100, 1_000, 10_000
-    ), before_it_searches, it_searches, TRANSFERS
+    ), begun(holds_itself), read_by_holder(holds_itself, None), TRANSFERS
     yield "a read of what the transaction has read, beside entries that have one of its two values", (
         1_000, 10_000, 30_000
-    ), before_it_reads, it_reads_again, TRANSFERS
+    ), begun(read_by_itself), read_by_holder(read_by_itself, 1, who=1), TRANSFERS
     yield "a page of sixteen", (1_000, 10_000, 60_000), opened, pages, SETS * PAGES
     yield "a page of sixteen, under a transaction that holds 64 entries of another space", (
         1_000, 10_000, 60_000

@@ -50,8 +50,8 @@ class Session:
 
 
 def holds_many(program):
-    """A transaction that holds a hundred entries finds another behind 30,000 that somebody else has written as soon as
-    one that holds ten does."""
+    """A transaction that holds three thousand entries finds another before them, and behind 30,000 that somebody else
+    has written, as soon as one that holds ten does."""
     def seconds(held):
         session = Session()
         # The house numbers what it grants: the two transactions are 1 and 2.
@@ -66,7 +66,7 @@ def holds_many(program):
             session.find("read", {"who": "ann"}, txn=2)
         return session.seconds(program)
 
-    few, many = seconds(10), seconds(100)
+    few, many = seconds(10), seconds(3_000)
     assert many < 2 * few, (few, many)
 
 

@@ -1,6 +1,6 @@
 -- Rows that are held at the head of a list, as rows and starts change.
 use Rattle.std.proofs.Common.{◌≡◌, ℕ, zero, suc, ◌+◌, ◌-◌, ◌<◌, ◌≤◌, Bool, true, false, cond, ◌&&◌, eqb, nat_lt, List, [], ◌∷◌, ◌++◌, length, take, get_or, map, Option, Some, None, inl, inr, refl, ap, sym, ◌∙◌, subst, arith}
-use Rattle.std.specs.Prelude.{filter, is_none, Result, Ok, Err, OnOk, OnErr}
+use Rattle.std.specs.Prelude.{filter, is_none, max, Result, Ok, Err, OnOk, OnErr}
 use Rattle.std.specs.Option.{option_map_or}
 use Rattle.std.specs.Map.{lookup}
 use Rattle.std.specs.List.{AllByRecursion}
@@ -215,6 +215,20 @@ module _ (kind had : Row → Bool) (start : ℕ) (rows : List Row) where
       (λ r p q k o. up first.number r.number pos (q (and_true (nat_lt start r.number) (had r) (is_lt start r.number (p k o)) o) k)) where
         up : (a b : ℕ) → 0 < a → a ≤ b → a - 1 < b
         up a b p q = omega arith
+
+-- the open ones stand behind both, where whoever has a row might have it for the other
+pub above_both : (kind had other : Row → Bool) (a b n : ℕ) (rows : List Row) → n ≡ max a b → ((r : Row) → had r ≡ true → other r ≡ true) → AreAbove kind had a rows → AreAbove kind other b rows → AreAbove kind had n rows
+above_both kind had other a b n rows is also h k =
+    both (λ r. kind r ≡ true → had r ≡ true → a < r.number) (λ r. kind r ≡ true → other r ≡ true → b < r.number) (λ r. kind r ≡ true → had r ≡ true → n < r.number) rows h k
+    (λ r p q c o. less r.number (p c o) (q c (also r o))) where
+      less : (m : ℕ) → a < m → b < m → n < m
+      less m p q = omega (arith, is)
+
+pub public_untaken : (r : Row) → is_public r ≡ true → is_untaken r ≡ true
+public_untaken r h = (and_both (is_none r.writer) (is_untaken r) h).1
+
+pub free_public : (r : Row) → is_free r ≡ true → is_public r ≡ true
+free_public r h = (and_both (eqb (length r.readers) 0) (is_public r) h).1
 
 -- ---- a row that is taken or read isn't had
 

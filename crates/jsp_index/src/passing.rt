@@ -105,13 +105,13 @@ pub(crate) fn pass(starts: &mut Starts, rows: &Rows, seed: u64, number: u64)
         return;
     };
     'places: for place in 0..ByNumber::count(seed, row) {
-        pass_under(starts, rows, seed, ByNumber::key(seed, row, place), number);
+        pass_under(starts, rows, seed, ByNumber::key(seed, row, place));
     }
 }
 
-/// The key starts behind the rows at the head of its list that can't be had, up to this number at
-/// least where all can't, if the list is long.
-fn pass_under(starts: &mut Starts, rows: &Rows, seed: u64, key: u64, number: u64)
+/// The key starts behind the rows at the head of its list that can't be had, and behind all numbers
+/// where none can, if the list is long.
+fn pass_under(starts: &mut Starts, rows: &Rows, seed: u64, key: u64)
     requires { ArePassed seed starts.old rows.now }
     ensures { ArePassed seed starts.new rows.now }
 {
@@ -126,10 +126,14 @@ fn pass_under(starts: &mut Starts, rows: &Rows, seed: u64, key: u64, number: u64
     if start.are_equal() && begins_open(rows, numbers, start.held, &Free {}) {
         return;
     }
+    // A row that was taken isn't public, and one that isn't public isn't free.
+    let taken = further(rows, numbers, start.taken, &Untaken {});
+    let hidden = further(rows, numbers, start.hidden.max(taken), &Public {});
+    let held = further(rows, numbers, start.held.max(hidden), &Free {});
     let next = Start {
-        taken: further(rows, numbers, start.taken, number, &Untaken {}),
-        hidden: further(rows, numbers, start.hidden, number, &Public {}),
-        held: further(rows, numbers, start.held, number, &Free {}),
+        taken,
+        hidden,
+        held,
     };
     if next != start {
         let _ = set_start(starts, key, next);
@@ -137,15 +141,15 @@ fn pass_under(starts: &mut Starts, rows: &Rows, seed: u64, key: u64, number: u64
 }
 
 /// Up to where none of a list is open: behind the start, where the first row there isn't open, and
-/// behind those that follow and aren't.
-fn further<P: Test<Row>>(rows: &Rows, numbers: &Numbers, start: u64, number: u64, had: &P) -> u64
+/// behind those that follow and aren't. Rows that come or are let go lower a start again.
+fn further<P: Test<Row>>(rows: &Rows, numbers: &Numbers, start: u64, had: &P) -> u64
     ensures { (kind : OfRow → Bool) → AreNamed number_of kind numbers.now rows.now → AreAbove kind (P.is_passed had.now) start rows.now → AreAbove kind (P.is_passed had.now) result rows.now }
 {
     if begins_open(rows, numbers, start, had) {
         return start;
     }
     match rows.first_named(numbers, start, had) {
-        None => number.max(start),
+        None => u64::MAX,
         Some(row) => row.number - 1,
     }
 }
