@@ -58,11 +58,12 @@ def start(program, limit, *options):
 
 
 def says_so(program, limit, told, *options):
-    """It doesn't listen, says why, and ends with status 1."""
-    server = start(program, limit, *options)
-    said, faults = server.communicate(timeout=SECONDS)
-    ended = server.returncode, said, faults
-    assert ended[:2] == (1, b"") and faults.startswith(told), ended
+    """It doesn't listen, says why, and ends with status 1. Its input stays open, or what reads that might have ended
+    before threads are looked for."""
+    with start(program, limit, *options) as server:
+        status = server.wait(timeout=SECONDS)
+        ended = status, server.stdout.read(), server.stderr.read()
+    assert ended[:2] == (1, b"") and ended[2].startswith(told), ended
 
 
 @contextmanager

@@ -1,5 +1,6 @@
 pub mod Changing
 pub mod Judging
+pub mod Places
 pub mod Replay
 pub mod Spaces
 pub mod Posting

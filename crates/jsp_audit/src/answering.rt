@@ -11,7 +11,6 @@ ghost use Rattle.jsp_model.specs.Steps.{has_its_rows};
 ghost use Rattle.jsp_audit.specs.Changing.{has_its_choice};
 ghost use Rattle.jsp_audit.specs.Judging.{refusal_in};
 
-use crate::asking::ask_of;
 use crate::telling::event_of;
 use jsp_core::Core;
 use jsp_entries::{answer_with, blocked_named};
@@ -79,7 +78,7 @@ fn said_to_ask(
     ensures { IfOk result (λ v. v.items ≡ said_to state.now session asked.now.id rows.now asked.now.ask (refusal_of state.now session asked.now.id asked.now.ask)) }
 {
     let id = asked.id();
-    let ask = ask_of(asked);
+    let ask = asked.ask();
     match refused {
         Some(refusal) => {
             let reply = Reply::Refused {

@@ -7,7 +7,6 @@ ghost use Rattle.jsp_model.specs.Limits.{IsWithinLimits};
 ghost use Rattle.jsp_audit.specs.Changing.{has_its_choice, at_time, after_fault, decided};
 ghost use Rattle.jsp_audit.specs.Judging.{refusal_in};
 
-use crate::asking::ask_of;
 use jsp_core::Core;
 use jsp_entries::{grant, unblock};
 use jsp_grants::tell;
@@ -85,7 +84,7 @@ fn ask(
     ensures err { OnErr result (state.new ≡ state.old) }
 {
     let id = asked.id();
-    let ask = ask_of(asked);
+    let ask = asked.ask();
     match refused {
         Some(_) => Ok(()),
         None => accept(alloc, state, session, id, ask, rows),

@@ -6,7 +6,6 @@ ghost use Rattle.jsp_model.specs.Requests.{rows_asked};
 ghost use Rattle.jsp_model.specs.Steps.{is_legal as legal, has_its_rows as has_rows};
 ghost use Rattle.jsp_model.specs.declared.limits.TheConstants.{LAST_TIME};
 
-use crate::asking::ask_of;
 use crate::touching::{are_quiet, ask_touches};
 use jsp_core::{Core, LiveImage};
 use jsp_entries::blocked_named;
@@ -51,7 +50,7 @@ fn has_its_rows(
     ensures { IfOk result (λ b. b ≡ has_rows state.now session asked.now.id rows.now (refusal_of state.now session asked.now.id asked.now.ask) (rows_asked asked.now.ask)) }
 {
     let id = asked.id();
-    let ask = ask_of(asked);
+    let ask = asked.ask();
     match refusal(alloc, state, session, id, ask)? {
         Some(_) => Ok(rows.is_empty()),
         None => are_chosen(alloc, state, session, id, ask, rows),

@@ -3,7 +3,6 @@ ghost use Rattle.std.specs.Prelude.{◌≡◌, ◌≤◌, IfOk};
 ghost use Rattle.jsp_audit.specs.Judging.{refusal_in as refused_in};
 ghost use Rattle.jsp_model.specs.declared.limits.TheConstants.{LAST_TIME};
 
-use crate::asking::ask_of;
 use jsp_core::Core;
 use jsp_model::Step;
 use jsp_reply::Refusal;
@@ -22,7 +21,7 @@ pub(crate) fn refusal_in(
 {
     match step {
         Step::Ask { session, asked, .. } => {
-            refusal(alloc, state, *session, asked.id(), ask_of(asked))
+            refusal(alloc, state, *session, asked.id(), asked.ask())
         }
         _ => Ok(None),
     }

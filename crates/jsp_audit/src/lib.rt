@@ -23,6 +23,7 @@ mod legal;
 mod offering;
 mod replaying;
 mod saying;
+mod spaces;
 mod telling;
 mod touching;
 
@@ -33,4 +34,5 @@ pub use jsp_state::{choose, due, is_open, is_quiet, waiting};
 pub use legal::is_legal;
 pub use replaying::{ReplayFault, Replayed, replay, replay_from};
 pub use saying::said;
+pub use spaces::Spaces;
 pub use touching::{are_quiet, ask_touches, touches};

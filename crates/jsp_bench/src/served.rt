@@ -1,7 +1,7 @@
 //! A course of one session as a server serves it, over a line in memory.
 use crate::digest::Digest;
 use jsp_floor::{Bounds, Clock, Counts, Door, Gate, Hangup, Knock, run_house};
-use jsp_hall::Hall;
+use jsp_house::Hall;
 use jsp_model::Config;
 use std::alloc::Global;
 use std::io::{self, Read, Write};

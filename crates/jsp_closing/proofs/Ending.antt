@@ -14,7 +14,7 @@ use Rattle.jsp_model.specs.Answers.{Saying}
 use Rattle.jsp_closing.specs.Checked.{AreRight}
 use Rattle.jsp_closing.specs.Closing.{opens, IsAtRest, IsLast, IsWhole, RestsAfter}
 use Rattle.jsp_laws.proofs.Laws.{laws_of_runs}
-use Rattle.jsp_kept.specs.declared.kept.Era.{Era}
+use Rattle.jsp_drive.specs.declared.era.Era.{Era}
 
 is_line : (s : ℕ) (st : State) (steps : List Step) (line : LineReport) → AsksIn s steps (state_after st steps) line → IsWritten s (said_in st steps) line → IsLine s st steps line
 is_line s st steps line asks writes = record {

@@ -10,7 +10,7 @@ use Rattle.jsp_reply.specs.declared.reply.Reply.{Reply}
 use Rattle.jsp_model.specs.Answers.{Saying}
 use Rattle.jsp_drive.specs.Heard.{framed}
 use Rattle.jsp_closing.specs.declared.closed.LineReport.{LineReport}
-use Rattle.jsp_closing.specs.Bytes.{frames}
+use Rattle.jsp_drive.specs.Bytes.{frames}
 use Rattle.jsp_closing.specs.Writing.{answers_to, Matches, AreMatched, IsWritten}
 use Rattle.jsp_closing.proofs.Places.{at_set}
 

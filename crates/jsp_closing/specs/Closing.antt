@@ -7,7 +7,7 @@ use Rattle.jsp_model.specs.Lookup.{empty}
 use Rattle.jsp_model.specs.Runs.{IsRun, state_after}
 use Rattle.jsp_model.specs.Settling.{settle_step, AllQuiet}
 use Rattle.jsp_laws.specs.Runs.{LawsOfRuns}
-use Rattle.jsp_kept.specs.declared.kept.Era.{Era}
+use Rattle.jsp_drive.specs.declared.era.Era.{Era}
 use Rattle.jsp_closing.specs.Asking.{unasked_in}
 use Rattle.jsp_closing.specs.declared.closed.Closed.{Closed}
 use Rattle.jsp_closing.specs.declared.closed.Closed.TheVariants as closed

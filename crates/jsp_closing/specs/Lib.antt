@@ -1,4 +1,3 @@
-pub mod Bytes
 pub mod Asking
 pub mod Writing
 pub mod Lines

@@ -8,10 +8,10 @@ use Rattle.jsp_model.specs.Lookup.{is_open}
 use Rattle.jsp_model.specs.Runs.{state_after, said_to}
 use Rattle.jsp_drive.specs.Streams.{requests_of}
 use Rattle.jsp_drive.specs.Giving.{GaveAll}
-use Rattle.jsp_closing.specs.declared.closed.Ended.{Ended}
-use Rattle.jsp_closing.specs.declared.closed.Ended.TheVariants.{Cut, Stopped}
+use Rattle.jsp_drive.specs.declared.ended.Ended.{Ended}
+use Rattle.jsp_drive.specs.declared.ended.Ended.TheVariants.{Cut, Stopped}
 use Rattle.jsp_closing.specs.declared.closed.LineReport.{LineReport}
-use Rattle.jsp_closing.specs.Bytes.{Begins, frames}
+use Rattle.jsp_drive.specs.Bytes.{Begins, frames}
 
 abbrev pub shuts : ℕ → Step → Bool
 shuts s (step.Shut t) = t == s

@@ -3,7 +3,7 @@ use Rattle.std.specs.Prelude.{◌≡◌, ℕ, ◌+◌, ◌==◌, ◌⊎◌, Bool
 use Rattle.jsp_reply.specs.declared.reply.Reply.{Reply}
 use Rattle.jsp_model.specs.Answers.{Saying}
 use Rattle.jsp_closing.specs.declared.closed.LineReport.{LineReport}
-use Rattle.jsp_closing.specs.Bytes.{Begins, frames}
+use Rattle.jsp_drive.specs.Bytes.{Begins, frames}
 
 -- of what was said, the answers to one session
 abbrev pub answers_to : ℕ → List Saying → List Reply

@@ -1,24 +1,8 @@
 //! What a run answers.
-use jsp_kept::ReplayFault;
+use jsp_audit::ReplayFault;
+use jsp_drive::Ended;
 use jsp_model::Step;
 use jsp_types::NoMemory;
-
-/// Why the thread that reads a line ended.
-#[derive(Clone, Copy, Debug, PartialEq, Eq)]
-pub enum Ended {
-    /// Its input ended.
-    End,
-    /// A read failed.
-    Failed,
-    /// It read as often as it may.
-    Bound,
-    /// Its own last input closed the session: a `bye`, or a frame that is too long.
-    Closing,
-    /// Its last input made no step, since the session had been closed otherwise.
-    Cut,
-    /// A call was stopped, for want of memory.
-    Stopped,
-}
 
 /// What a line read and wrote.
 #[derive(Drop)]

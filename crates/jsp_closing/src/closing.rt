@@ -9,8 +9,8 @@ use crate::closed::{Closed, Fault, LineReport, RunFault};
 use crate::leaving::check_lines;
 use crate::resting::is_at_rest;
 use crate::writing::check_written;
-use jsp_drive::Line;
-use jsp_kept::{Era, Replayed, replay};
+use jsp_audit::{Replayed, replay};
+use jsp_drive::{Era, Line};
 use jsp_model::{Config, Step};
 use std::alloc::Global;
 

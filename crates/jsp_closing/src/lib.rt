@@ -14,5 +14,5 @@ mod leaving;
 mod resting;
 mod writing;
 
-pub use closed::{Closed, Ended, LineReport, RunFault};
+pub use closed::{Closed, LineReport, RunFault};
 pub use closing::close;

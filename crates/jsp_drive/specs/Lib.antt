@@ -6,3 +6,4 @@ pub mod Tie
 pub mod Calls
 pub mod Streams
 pub mod Giving
+pub mod Bytes

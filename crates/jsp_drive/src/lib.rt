@@ -19,6 +19,8 @@
 #![tactic(auto)]
 
 mod acts;
+mod ended;
+mod era;
 mod hear;
 mod line;
 mod lines;
@@ -30,6 +32,8 @@ mod serve;
 mod stop;
 
 pub use acts::{Act, Driven, Sent};
+pub use ended::Ended;
+pub use era::Era;
 pub use hear::LineInput;
 pub use line::{Line, Next};
 pub use reading::one_reading;

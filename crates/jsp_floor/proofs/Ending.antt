@@ -3,7 +3,7 @@ use Rattle.std.proofs.Common.{◌≡◌, ℕ, zero, suc, List, ◌∙◌, ◌++�
 use Rattle.jsp_model.specs.declared.step.Step.{Step}
 use Rattle.jsp_model.specs.Lookup.{empty}
 use Rattle.jsp_model.specs.Runs.{IsRun, state_after}
-use Rattle.jsp_kept.specs.declared.kept.Era.{Era}
+use Rattle.jsp_drive.specs.declared.era.Era.{Era}
 use Rattle.jsp_kept.specs.History.{History, IsKept}
 use Rattle.jsp_kept.specs.Eras.{Grows}
 use Rattle.jsp_floor.specs.Ending.{Settles}

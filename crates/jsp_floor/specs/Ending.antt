@@ -3,7 +3,7 @@ use Rattle.std.specs.Prelude.{◌≡◌, ℕ, zero, suc, List}
 use Rattle.jsp_model.specs.declared.step.Step.{Step}
 use Rattle.jsp_kept.specs.History.{History}
 use Rattle.jsp_kept.specs.Eras.{Grows}
-use Rattle.jsp_kept.specs.declared.kept.Era.{Era}
+use Rattle.jsp_drive.specs.declared.era.Era.{Era}
 use Rattle.jsp_closing.specs.declared.closed.Closed.{Closed}
 use Rattle.jsp_closing.specs.declared.closed.LineReport.{LineReport}
 use Rattle.jsp_closing.specs.Closing.{IsOf}

@@ -5,7 +5,8 @@ ghost use Rattle.jsp_floor.specs.Ending.{EndsAs, Finishes, Settles};
 
 use crate::served::{Served, fault_of};
 use jsp_closing::{Closed, RunFault, close};
-use jsp_kept::{Era, Kept};
+use jsp_drive::Era;
+use jsp_kept::Kept;
 use jsp_model::{Config, House, Settled, Why};
 use std::alloc::Global;
 use std::sync::Wait;

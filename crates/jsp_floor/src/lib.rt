@@ -9,11 +9,10 @@ mod end;
 mod lines;
 mod run;
 mod served;
-#[cfg(test)]
-mod tests;
 
 pub use door::{Door, Knock};
-pub use jsp_closing::{Closed, Ended, LineReport, RunFault};
+pub use jsp_closing::{Closed, LineReport, RunFault};
+pub use jsp_drive::Ended;
 pub use jsp_line::{
     Clock, Counted, Counts, Floor, Gate, Hangup, Health, LineDone, OutDone, OutHalf, ReadDone,
     Shared, SpaceCounts, Start, Transcript,

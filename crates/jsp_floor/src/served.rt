@@ -4,7 +4,8 @@ ghost use Rattle.std.specs.declared.alloc.Global.{Global};
 ghost use Rattle.jsp_line.specs.declared.transcript.Transcript.TheVariants.{Dropped, Whole};
 ghost use Rattle.jsp_floor.specs.Served.{Adds, AddsShort, fault_of, found_memory, is_short, noted, noted_line, noted_stop, report_of};
 
-use jsp_closing::{Ended, LineReport, RunFault};
+use jsp_closing::{LineReport, RunFault};
+use jsp_drive::Ended;
 use jsp_line::{Counted, Health, LineDone, OutDone, ReadDone};
 use jsp_model::Why;
 use std::alloc::Global;

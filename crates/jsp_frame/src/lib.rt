@@ -16,8 +16,6 @@
 mod encode;
 mod front;
 mod reading;
-#[cfg(test)]
-mod tests;
 mod unframer;
 
 pub use encode::frame;

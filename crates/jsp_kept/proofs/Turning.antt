@@ -22,9 +22,7 @@ use Rattle.jsp_laws.proofs.Lists.{Has, each_has, each_by_all, found_has}
 use Rattle.jsp_quiet.specs.Steady.{IsSteady}
 use Rattle.jsp_quiet.proofs.Covering.{all_parts, covered}
 use Rattle.jsp_quiet.proofs.Unasked.{LeavesVotes, free_run_leaves, same_turn, still_accepts}
-use Rattle.jsp_rows.proofs.Idling.{still_quiet}
-use Rattle.jsp_rows.proofs.Places.{none_unquiet}
-use Rattle.jsp_rows.proofs.Turning.{settle_answers}
+use Rattle.jsp_quiet.proofs.Turns.{none_unquiet, settle_answers, still_quiet}
 use Rattle.jsp_kept.specs.Calls.{outcome}
 use Rattle.jsp_kept.specs.Eras.{Performs, Prepares, NeedsMemory, no_memory}
 use Rattle.jsp_kept.specs.History.{History}

@@ -7,8 +7,8 @@ ghost use Rattle.jsp_kept.specs.History.{IsKept, new_history};
 ghost use Rattle.jsp_kept.specs.Calls.{KeepsEra, KeepsAsks, KeepsOuts, Seals};
 
 use crate::aside::{free_some, set_aside};
-use jsp_model::{Config, House, Step};
-use jsp_rows::{Backlog, SpaceCounts, TransactionCounts};
+use jsp_drive::Era;
+use jsp_model::{Backlog, Config, House, SpaceCounts, Step, TransactionCounts};
 use jsp_types::{NoMemory, Text};
 use std::alloc::Global;
 use std::marker::Model;
@@ -82,14 +82,6 @@ impl<H: House, A: Ledger, O: Ledger> Model for Kept<H, A, O> {
           bound = H.bound_of k.house;
           spare = vec_capacity k.log - vec_len k.log;
         }) };
-}
-
-/// An era that is over.
-#[derive(Drop)]
-pub struct Era {
-    pub steps: Vec<Step>,
-    /// Whether an era was sealed before it. Where none was, its steps are the whole history.
-    pub is_sealed: bool,
 }
 
 impl<H: House, A: Ledger, O: Ledger> Kept<H, A, O> {

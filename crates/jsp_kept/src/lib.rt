@@ -19,9 +19,7 @@ mod through;
 mod turns;
 
 pub use jsp_drive::LineInput;
-// What is asked of a history that has ended, so that its callers name one crate.
-pub use jsp_rows::{
-    Backlog, ReplayFault, Replayed, SpaceCounts, TransactionCounts, is_open, is_quiet, replay,
-};
-pub use kept::{Era, Kept};
+// What is asked of its house, so that its callers name one crate.
+pub use jsp_model::{Backlog, SpaceCounts, TransactionCounts};
+pub use kept::Kept;
 pub use seats::{AskSeat, OutSeat, Seat};

@@ -16,8 +16,6 @@ mod fault;
 mod granting;
 mod item;
 mod leases;
-#[cfg(test)]
-mod tests;
 mod tournament;
 
 pub use fault::{GrantFault, LeaseFault};

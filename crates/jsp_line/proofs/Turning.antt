@@ -8,8 +8,8 @@ use Rattle.jsp_drive.specs.Line.{Unheard, start as begin, IsOutOfMemory}
 use Rattle.jsp_drive.specs.Giving.{Gave, GaveAll, FeedsStream}
 use Rattle.jsp_drive.proofs.Splitting.{SplitsInto-nil, SplitsInto-append}
 use Rattle.jsp_line.specs.declared.transcript.Transcript.{Transcript}
-use Rattle.jsp_closing.specs.declared.closed.Ended.{Ended}
-use Rattle.jsp_closing.specs.declared.closed.Ended.TheVariants.{End, Failed, Bound, Closing, Cut, Stopped}
+use Rattle.jsp_drive.specs.declared.ended.Ended.{Ended}
+use Rattle.jsp_drive.specs.declared.ended.Ended.TheVariants.{End, Failed, Bound, Closing, Cut, Stopped}
 use Rattle.jsp_line.specs.Bytes.{IsTranscript}
 use Rattle.jsp_line.specs.Reading.{Counts, is_closing, is_acted, Reads}
 use Rattle.jsp_line.specs.Turns.{GoesOn, ReadsOn, ReadsPiece, ActsOne, ActsMore, ActsAll, FaultsOn}

@@ -11,7 +11,7 @@ use Rattle.jsp_line.specs.declared.transcript.Transcript.{Transcript}
 use Rattle.jsp_line.specs.declared.half.Health.{Health}
 use Rattle.jsp_line.specs.declared.half.Health.TheVariants.{Sound, Failed}
 use Rattle.jsp_line.specs.Bytes.{IsTranscript}
-use Rattle.jsp_closing.specs.Bytes.{frames}
+use Rattle.jsp_drive.specs.Bytes.{frames}
 use Rattle.jsp_line.specs.Halves.{is_sound, Puts, IsHalf, Writes, WritesPile}
 
 -- one answer more

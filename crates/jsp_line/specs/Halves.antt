@@ -5,7 +5,7 @@ use Rattle.std.specs.Io.KnownBytes.{Appends}
 use Rattle.jsp_reply.specs.declared.reply.Reply.{Reply}
 use Rattle.jsp_model.specs.declared.house.Stopped.{Stopped}
 use Rattle.jsp_kept.specs.History.{Place}
-use Rattle.jsp_closing.specs.Bytes.{Begins, frames}
+use Rattle.jsp_drive.specs.Bytes.{Begins, frames}
 use Rattle.jsp_line.specs.declared.transcript.Transcript.{Transcript}
 use Rattle.jsp_line.specs.declared.half.Health.{Health}
 use Rattle.jsp_line.specs.declared.half.Health.TheVariants.{Sound, Failed}

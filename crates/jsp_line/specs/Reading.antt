@@ -10,8 +10,8 @@ use Rattle.jsp_model.specs.declared.step.Step.TheVariants as step
 use Rattle.jsp_drive.specs.Line.{Unheard}
 use Rattle.jsp_drive.specs.Giving.{Gave, GaveAll}
 use Rattle.jsp_line.specs.declared.transcript.Transcript.{Transcript}
-use Rattle.jsp_closing.specs.declared.closed.Ended.{Ended}
-use Rattle.jsp_closing.specs.declared.closed.Ended.TheVariants.{End, Failed, Bound, Closing, Cut, Stopped}
+use Rattle.jsp_drive.specs.declared.ended.Ended.{Ended}
+use Rattle.jsp_drive.specs.declared.ended.Ended.TheVariants.{End, Failed, Bound, Closing, Cut, Stopped}
 use Rattle.jsp_line.specs.Bytes.{saturated, IsTranscript}
 
 abbrev pub is_bye : Ask → Bool

@@ -5,8 +5,8 @@ use Rattle.jsp_model.specs.declared.step.Step.{Step}
 use Rattle.jsp_drive.specs.Line.{Unheard}
 use Rattle.jsp_drive.specs.Giving.{Gave, GaveAll, FeedsStream}
 use Rattle.jsp_line.specs.declared.transcript.Transcript.{Transcript}
-use Rattle.jsp_closing.specs.declared.closed.Ended.{Ended}
-use Rattle.jsp_closing.specs.declared.closed.Ended.TheVariants.{End, Failed, Closing, Cut, Stopped}
+use Rattle.jsp_drive.specs.declared.ended.Ended.{Ended}
+use Rattle.jsp_drive.specs.declared.ended.Ended.TheVariants.{End, Failed, Closing, Cut, Stopped}
 use Rattle.jsp_line.specs.Bytes.{IsTranscript}
 use Rattle.jsp_line.specs.Reading.{Counts, EndsClosing, is_acted, Faults, Reads}
 

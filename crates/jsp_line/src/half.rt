@@ -7,7 +7,7 @@ ghost use Rattle.jsp_line.specs.Seats.{Asks};
 ghost use Rattle.jsp_line.specs.declared.half.Health.TheVariants.{Failed};
 ghost use Rattle.jsp_line.specs.Bytes.{IsTranscript};
 ghost use Rattle.jsp_drive.specs.Heard.{framed};
-ghost use Rattle.jsp_closing.specs.Bytes.{frames};
+ghost use Rattle.jsp_drive.specs.Bytes.{frames};
 ghost use Rattle.jsp_line.specs.Halves.{is_sound, said_in, Puts, Writes, WritesPile};
 
 use crate::counted::Counted;

@@ -1,6 +1,6 @@
 //! A line: its two threads over one writing half.
 ghost use Rattle.std.specs.Prelude.{◌≡◌, ◌≤◌};
-ghost use Rattle.jsp_closing.specs.declared.closed.Ended.TheVariants.{Bound};
+ghost use Rattle.jsp_drive.specs.declared.ended.Ended.TheVariants.{Bound};
 ghost use Rattle.jsp_line.specs.Seats.{IsSeated};
 ghost use Rattle.jsp_line.specs.Reading.{Faults, Reads};
 ghost use Rattle.jsp_line.specs.Halves.{Writes};
@@ -14,7 +14,7 @@ use crate::read::ReadDone;
 use crate::shared::Shared;
 use crate::slot::{Owner, Slot};
 use crate::transcript::Transcript;
-use jsp_closing::Ended;
+use jsp_drive::Ended;
 use jsp_kept::{AskSeat, Backlog, OutSeat};
 use jsp_model::Why;
 use std::io::{Read, Write};

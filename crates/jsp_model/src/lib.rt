@@ -5,10 +5,12 @@
 //! (`Refusals`), what a step changes (`Changes`) and says (`Answers`), what is due (`Due`), what a
 //! step touches and when a space is quiet (`Touches`, `Quiet`). A run is a list of steps, each legal
 //! where it stands (`Runs`). `House` is the contract of whatever keeps such a state (`specs/House`),
-//! `Image` a state with the limits of the profile in its type, `Config` the names of the spaces.
+//! and `Backlog` of one that counts what stands in it. `Image` is a state with the limits of the
+//! profile in its type, `Config` the names of the spaces.
 //! docs/SPECIFICATION.md tells the machine in plain words.
 #![tactic(auto)]
 
+mod backlog;
 mod config;
 mod house;
 mod image;
@@ -16,6 +18,7 @@ mod limits;
 mod state;
 mod step;
 
+pub use backlog::{Backlog, SpaceCounts, TransactionCounts};
 pub use config::Config;
 pub use house::{House, Input, Settled, Stopped, Why};
 pub use image::Image;

@@ -15,8 +15,6 @@ mod hand_out;
 mod outboxes;
 mod post;
 mod queue;
-#[cfg(test)]
-mod tests;
 
 pub use outboxes::Outboxes;
 pub use post::Posted;

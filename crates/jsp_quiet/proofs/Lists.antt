@@ -1,10 +1,11 @@
--- Lists: what filtering sees of a list that changed elsewhere.
-use Rattle.std.proofs.Common.{◌≡◌, refl, sym, ap, ◌∙◌, List, [], ◌∷◌, ◌++◌, map, Bool, true, false, cond, ◌||◌, ◌&&◌, filter, flat_map, true≢false, append-nil}
+-- Lists: what filtering sees of a list that changed elsewhere, and what passes nowhere or everywhere.
+use Rattle.std.proofs.Common.{◌≡◌, refl, sym, ap, ◌∙◌, List, [], ◌∷◌, ◌++◌, map, Bool, true, false, cond, ◌||◌, ◌&&◌, filter, flat_map, true≢false, append-nil, inl, inr, None}
+use Rattle.std.specs.Prelude.{find}
 use Rattle.std.specs.List.{list_any, list_all}
 use Rattle.std.proofs.lemmas.Bool.{and_parts, and_from}
 use Rattle.std.proofs.lemmas.List.Elements.{filter-append}
 use Rattle.jsp_model.specs.Lookup.{update}
-use Rattle.jsp_laws.proofs.Lists.{Each}
+use Rattle.jsp_laws.proofs.Lists.{Each, Has}
 
 -- ---- a test that passes only where another does
 
@@ -106,3 +107,19 @@ all_pushed f (x ∷ xs) y k h =
 pub each_parts : {A : Type 0} (P : A → Type 0) (xs ys : List A) → Each P (xs ++ ys) → Each P xs × Each P ys
 each_parts P [] ys h = (tt, h)
 each_parts P (x ∷ xs) ys (h, hs) = let parts = each_parts P xs ys hs in ((h, parts.0), parts.1)
+
+-- ---- what is found, and what all are
+
+-- what isn't found passes nowhere
+pub find_none : {A : Type 0} (t : A → Bool) (xs : List A) (y : A) → find t xs ≡ None → Has xs y → t y ≡ false
+find_none t [] y e h = absurd h
+find_none {A = A} t (x ∷ xs) y e h = go (t x) refl e h (find_none t xs y)
+  where
+    go : (b : Bool) → t x ≡ b → find t (x ∷ xs) ≡ None → Has (x ∷ xs) y → (find t xs ≡ None → Has xs y → t y ≡ false) → t y ≡ false
+    go true k q h ih = absurd (cc (rw k at q))
+    go false k q (inl s) ih = rw s at k
+    go false k q (inr s) ih = ih (rw k at q) s
+
+pub all_has : {A : Type 0} (t : A → Bool) (xs : List A) → ((y : A) → Has xs y → t y ≡ true) → list_all t xs ≡ true
+all_has t [] h = refl
+all_has t (x ∷ xs) h = and_from (t x) (list_all t xs) (h x (inl refl)) (all_has t xs (λ y k. h y (inr k)))

@@ -20,6 +20,3 @@ pub use refusal::Refusal;
 pub use reply::{LeaseAnswer, LeaseOutcome, Reply, TxnState};
 pub use said::Said;
 pub use writing::text;
-
-#[cfg(test)]
-mod tests;

@@ -7,7 +7,7 @@ ghost use Rattle.jsp_serve.specs.Audit.{Has, IsHistory, frames_to, AuditFails, R
 use crate::fault::ScriptFault;
 use crate::streams::{Streams, streams_said, streams_sent};
 use jsp_drive::Sent;
-use jsp_hall::{ReplayFault, replay};
+use jsp_house::{ReplayFault, replay};
 use jsp_model::{Config, Step};
 use std::alloc::Global;
 

@@ -17,7 +17,7 @@ use crate::print::printed;
 use crate::seeds::Seeds;
 use crate::writing::{tell, write_bytes};
 use jsp_drive::{Act, Driven, drive};
-use jsp_hall::{Hall, RowsHouse};
+use jsp_house::{Hall, RowsHouse};
 use jsp_model::Config;
 use jsp_types::NoMemory;
 use std::alloc::Global;

@@ -7,7 +7,7 @@ use crate::connections::Connections;
 use crate::seeds::Seeds;
 use crate::stop::Stop;
 use jsp_floor::{Bounds, Clock, Closed, Counts, Gate, RunFault, run_house};
-use jsp_hall::Hall;
+use jsp_house::Hall;
 use jsp_model::Config;
 use jsp_status::{RefusalCount, SpaceStatus, Status};
 use std::alloc::{AllocError, Global};

@@ -19,8 +19,6 @@ mod page;
 mod so_far;
 mod status;
 mod table;
-#[cfg(test)]
-mod tests;
 
 pub use connection::serve;
 pub use json::to_json;

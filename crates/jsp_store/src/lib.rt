@@ -10,7 +10,5 @@
 
 mod rows;
 mod scanned;
-#[cfg(test)]
-mod tests;
 
 pub use rows::{Keeping, Rows};

@@ -19,8 +19,6 @@ mod known;
 mod matching;
 mod names;
 mod sorting;
-#[cfg(test)]
-mod tests;
 mod text;
 mod value;
 

@@ -1,6 +1,6 @@
 //! A request that keeps its limits in its type.
 ghost use Rattle.std.specs.Prelude.{◌≡◌, IsTrue};
-ghost use Rattle.jsp_wire.specs.Limits.{is_within_limits, within_limits};
+ghost use Rattle.jsp_wire.specs.Limits.{has_fitting_parts, is_within_limits, within_limits};
 
 use crate::limits::is_within_limits;
 use crate::{Ask, Request};
@@ -54,10 +54,11 @@ impl Asked {
         self.request.id
     }
 
-    /// What it asks.
+    /// What it asks; its texts and lists keep their limits.
     pub fn ask(&self) -> &Ask
         ensures asked { result.now ≡ self.now.ask }
         ensures limits { IsTrue (is_within_limits self.now) }
+        ensures fits { IsTrue (has_fitting_parts self.now.ask) }
     {
         &self.request.ask
     }

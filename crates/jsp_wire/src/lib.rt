@@ -30,6 +30,3 @@ pub use asked::Asked;
 pub use fault::WireFault;
 pub use json::Scratch;
 pub use read::{read_ask, read_ask_in, read_ask_with};
-
-#[cfg(test)]
-mod tests;

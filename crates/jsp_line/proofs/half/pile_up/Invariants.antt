@@ -1,5 +1,5 @@
 use Rattle.std.proofs.Common.{◌≡◌, ◌++◌, take}
-use Rattle.jsp_closing.specs.Bytes.{frames}
+use Rattle.jsp_drive.specs.Bytes.{frames}
 use Rattle.jsp_line.proofs.half.pile_up.Given as goal
 
 abbrev pub invariant-loop-one : goal.invariant-loop-one

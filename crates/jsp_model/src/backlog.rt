@@ -1,0 +1,41 @@
+//! How much waits for a session, and how much stands in a house.
+ghost use Rattle.std.specs.Prelude.{◌≡◌, ◌==◌, filter, length};
+ghost use Rattle.jsp_model.specs.Outboxes.{outbox_of};
+
+use crate::House;
+
+/// A house that counts what stands in it: the answers that wait for a session, which may be too many for
+/// one whose client reads none, the transactions, and what each space has.
+pub trait Backlog: House {
+    /// How many answers wait for a session.
+    fn waiting(&self, session: u64) -> u64
+        ensures { result ≡ length (outbox_of (Self.view self.now) session) };
+
+    /// How many transactions there are, and how many of them vote.
+    fn transactions(&self) -> TransactionCounts
+        ensures living { result.living ≡ length (Self.view self.now).transactions }
+        ensures voting { result.voting ≡ length (Self.view self.now).commits };
+
+    /// What stands at a space.
+    fn counts_in(&self, space: u64) -> SpaceCounts
+        ensures rows { result.rows ≡ length (filter (λ r. r.space == space) (Self.view self.now).rows) }
+        ensures waiting { result.waiting ≡ length (filter (λ b. b.space == space) (Self.view self.now).blocked) }
+        ensures registrations { result.registrations ≡ length (filter (λ r. r.space == space) (Self.view self.now).registrations) }
+        ensures match_sets { result.match_sets ≡ length (filter (λ m. m.space == space) (Self.view self.now).sets) };
+}
+
+/// How many transactions there are, and how many of them vote.
+#[derive(Clone, Copy, Debug, PartialEq, Eq)]
+pub struct TransactionCounts {
+    pub living: u64,
+    pub voting: u64,
+}
+
+/// How much stands at a space.
+#[derive(Clone, Copy, Debug, PartialEq, Eq)]
+pub struct SpaceCounts {
+    pub rows: u64,
+    pub waiting: u64,
+    pub registrations: u64,
+    pub match_sets: u64,
+}

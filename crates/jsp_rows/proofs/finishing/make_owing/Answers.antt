@@ -1,5 +1,0 @@
-use Rattle.jsp_rows.proofs.Order.{covers_itself}
-use Rattle.jsp_rows.proofs.finishing.make_owing.Goals as goal
-
-pub returns-in_err-spaces-clause-stays : goal.returns-in_err-spaces-clause-stays
-returns-in_err-spaces-clause-stays c = covers_itself c.args.debt.now.items

@@ -1,5 +1,0 @@
-use Rattle.jsp_rows.proofs.Staying.{makes_steady}
-use Rattle.jsp_rows.proofs.rows_house.RowsHouseHouse.act_ready.Goals as goal
-
-pub invariant_of-self : goal.invariant_of-self
-invariant_of-self c = record { steady = makes_steady c.args.self.now.image c.act_ready.new.image c.args.log.now.items c.act_ready.new.log.items c.act_ready.ensures.acts.steps c.act_ready.ensures.acts.makes c.args.self.now.steady }

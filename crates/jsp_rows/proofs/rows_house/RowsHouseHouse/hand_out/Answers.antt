@@ -1,9 +1,0 @@
-use Rattle.std.proofs.Common.{length}
-use Rattle.jsp_model.specs.House.{handed_out}
-use Rattle.jsp_rows.proofs.Staying.{stays_steady}
-use Rattle.jsp_rows.proofs.rows_house.RowsHouseHouse.hand_out.Goals as goal
-
-pub invariant_of-self : goal.invariant_of-self
-invariant_of-self c = record {
-  steady = stays_steady c.args.self.now.image c.answer.new.image c.args.log.now.items c.answer.new.log.items (λ v. handed_out c.args.session (length v.items)) c.answer.result c.answer.ensures.steps c.answer.ensures.err c.args.self.now.steady;
-}

@@ -1,5 +1,0 @@
-use Rattle.jsp_rows.proofs.Staying.{makes_steady}
-use Rattle.jsp_rows.proofs.rows_house.RowsHouseHouse.make_ready.Goals as goal
-
-pub invariant_of-self : goal.invariant_of-self
-invariant_of-self c = record { steady = makes_steady c.args.self.now.image c.make_ready.new.image c.args.log.now.items c.make_ready.new.log.items c.make_ready.ensures.goes.steps c.make_ready.ensures.goes.makes c.args.self.now.steady }

@@ -1,0 +1,30 @@
+//! Each call that takes memory, once, with memory to spare.
+use jsp_outbox::Outboxes;
+use jsp_reply::{Reply, Said};
+use std::test::Fail;
+
+fn done(id: u64) -> Said {
+    Said::new(Reply::Done { id })
+}
+
+#[test]
+fn answers_are_posted_and_handed_out(rt: HostRuntime) -> Result<(), Fail> {
+    let mut outboxes = Outboxes::new(rt.alloc());
+    let mut sayings = Vec::new(rt.alloc());
+    sayings.push((2, done(6)))?;
+    sayings.push((1, done(7)))?;
+    let _posts = outboxes.post_all(rt.alloc(), sayings)?;
+    let _posted = outboxes.post(rt.alloc(), 2, done(8))?;
+    assert_eq!(rt; outboxes.hand_out(rt.alloc(), 2, 1)?.len(), 1);
+    assert_eq!(rt; outboxes.waiting(2), 1);
+    Ok(())
+}
+
+#[test]
+fn outboxes_are_copied_and_made_again(rt: HostRuntime) -> Result<(), Fail> {
+    let mut outboxes = Outboxes::new(rt.alloc());
+    let _posted = outboxes.post(rt.alloc(), 1, done(5))?;
+    let again = Outboxes::of(outboxes.to_items(rt.alloc())?)?;
+    assert_eq!(rt; again.next_after(0), Some(1));
+    Ok(())
+}
