@@ -1,13 +1,13 @@
 #!/usr/bin/env bash
 # Runs the program with these arguments, this input and its own status. Where there is no program, or
-# it was built from other sources, it is built first: every crate is proved on the way. With --unproved
-# before the arguments of a script it is compiled and run at once, with checks in place of proofs.
+# it was built from other sources, it is built first: every crate that it stands on is proved on the
+# way. With --unproved before the arguments of a script it is compiled and run at once, with checks in
+# place of proofs.
 set -euo pipefail
 here=$(cd "$(dirname "${BASH_SOURCE[0]}")" && pwd)
 folder=$here/crates/jsp_program
 program=$folder/out/jsp_program
 built_from=$folder/out/built_from
-log=$here/build.log
 
 find_sources() {
     (cd "$here" && find crates.txt crates -name out -prune -o -type f \( -name '*.rt' -o -name '*.antt' \
@@ -32,38 +32,10 @@ is_old() {
     return 1
 }
 
-# Names each crate as the log of the build comes to it, and says how far it is in a large one. It ends with this
-# script, also where that is interrupted.
-tell_progress() {
-    local crates told=0 named checked last=
-    mapfile -t crates < <(sed -n 's/^\(jsp_[a-z]*\):.*/\1/p' "$here/crates.txt")
-    while sleep 1 && kill -0 $$ 2>/dev/null; do
-        mapfile -t named < <(sed -n 's/^rt: chose --jobs [0-9]* for //p' "$log")
-        for ((; told < ${#named[@]}; told++)); do
-            for place in "${!crates[@]}"; do
-                if [ "${crates[place]}" = "${named[told]}" ]; then
-                    echo "jsp: proving ${named[told]}, $((place + 1)) of ${#crates[@]} crates" >&2
-                fi
-            done
-        done
-        checked=$(sed -n 's/^so far: \([0-9]* of [0-9]* functions\) checked.*/\1/p' "$log" | tail -n 1)
-        if [ "$checked" != "$last" ]; then
-            last=$checked
-            echo "jsp:   $checked" >&2
-        fi
-    done
-}
-
 build() {
-    echo "jsp: building the program, and proving it: an hour and a half the first time, on four cores ($log)" >&2
-    : >"$log"
-    tell_progress &
-    local teller=$! built=yes
-    (cd "$folder" && rt run -- help </dev/null) >"$log" 2>&1 || built=no
-    kill "$teller"
-    if [ "$built" = no ]; then
-        tail -n 20 "$log" >&2
-        echo "jsp: not built" >&2
+    echo "jsp: the program is proved and built: about an hour the first time, on four processors" >&2
+    if ! "$here/build"; then
+        echo "jsp: not built ($here/build.log)" >&2
         exit 1
     fi
     touch "$program"

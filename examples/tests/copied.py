@@ -17,8 +17,10 @@ SOURCE = "crates/jsp_types/src/lib.rt"
 
 
 def copy(program, folder):
-    for name in ("jsp", "crates.txt"):
+    for name in ("jsp", "build", "crates.txt"):
         shutil.copy(ROOT / name, folder / name)
+    (folder / "docs").mkdir()
+    shutil.copy(ROOT / "docs/PROOFS.md", folder / "docs")
     shutil.copytree(ROOT / "crates/jsp_types/src", folder / "crates/jsp_types/src")
     (folder / "crates/jsp_program/out").mkdir(parents=True)
     shutil.copy(program, folder / "crates/jsp_program/out/jsp_program")
