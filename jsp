@@ -33,7 +33,7 @@ is_old() {
 }
 
 build() {
-    echo "jsp: the program is proved and built: about an hour the first time, on four processors" >&2
+    echo "jsp: the program is proved and built: up to an hour and a half the first time, on four processors" >&2
     if ! "$here/build"; then
         echo "jsp: not built ($here/build.log)" >&2
         exit 1
