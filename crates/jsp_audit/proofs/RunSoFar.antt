@@ -1,6 +1,6 @@
 -- One step more of a run.
-use Rattle.std.proofs.Common.{◌≡◌, ℕ, zero, suc, ◌+◌, ◌<◌, ◌≤◌, true, false, List, [], ◌∷◌, ◌++◌, length, take, get_or, Some, refl, ap, sym, ◌∙◌, arith, append_assoc}
-use Rattle.std.proofs.lemmas.List.{take_more, append-nil, take_all}
+use Rattle.std.proofs.Common.{◌≡◌, ℕ, zero, suc, ◌+◌, ◌<◌, true, false, List, [], ◌∷◌, ◌++◌, length, take, get_or, Some, refl, ap, sym, ◌∙◌, arith, append_assoc}
+use Rattle.std.proofs.lemmas.List.{take_more, append-nil}
 use Rattle.std.proofs.lemmas.Bool.{and_parts}
 use Rattle.jsp_model.specs.declared.state.State.{State}
 use Rattle.jsp_model.specs.declared.step.Step.{Step}
@@ -30,9 +30,6 @@ pub record Replaying (base : State) (done : List Step) (state : State) (told : L
   pub run : is_run base done ≡ true
   pub state_is : state ≡ state_after base done
   pub told_is : told ≡ said_in base done
-
-pub replaying_start : (base state : State) → state ≡ base → Replaying base [] state []
-replaying_start base state is = record { run = refl; state_is = is; told_is = refl }
 
 pub replaying_more : (base state now : State) (steps : List Step) (i : ℕ) (x : Step) (told told' : List Saying) → i < length steps → x ≡ get_or steps i x → Replaying base (take i steps) state told
     → is_legal state x ≡ true → told' ≡ told ++ said state x → now ≡ next state x → Replaying base (take (i + 1) steps) now told'
@@ -64,6 +61,3 @@ replaying_stops base state steps i x told lt is h illegal =
 pub replaying_fails : (base state : State) (steps : List Step) (i : ℕ) (x : Step) (told : List Saying) (e : ReplayFault) → i < length steps → x ≡ get_or steps i x → Replaying base (take i steps) state told → StopsAt e i (is_legal state x) → FailsAt e (first_illegal base steps)
 replaying_fails base state steps i x told (Illegal n) lt is h stops = replaying_stops base state steps i x told lt is h stops.1 ∙ ap Some (sym stops.0)
 replaying_fails base state steps i x told NoMemory lt is h stops = tt
-
-pub replaying_all : (base state : State) (steps : List Step) (i : ℕ) (told : List Saying) → length steps ≤ i → Replaying base (take i steps) state told → Replaying base steps state told
-replaying_all base state steps i told le h = rw (take_all i steps le) at h

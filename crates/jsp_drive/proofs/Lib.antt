@@ -4,7 +4,6 @@ pub mod Asking
 pub mod Quieting
 pub mod Turning
 pub mod Silence
-pub mod Stopping
 pub mod Giving
 pub mod Serving
 pub mod Performing

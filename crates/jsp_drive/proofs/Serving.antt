@@ -2,7 +2,7 @@
 use Rattle.std.proofs.Common.{◌≡◌, ℕ, ◌+◌, ◌<◌, Bool, true, false, List, [], ◌∷◌, ◌++◌, length, None, refl, ap, sym, ◌∙◌, subst, arith, inl, inr, length-append}
 use Rattle.std.specs.Prelude.{if◌then◌else◌, ◌⊎◌}
 use Rattle.std.specs.Int.{w32, to_be_bytes}
-use Rattle.jsp_frame.specs.Stream.{frame_of, BeginsWith, IsUnfinished, IsTooLong}
+use Rattle.jsp_frame.specs.Stream.{frame_of, BeginsWith, IsTooLong}
 use Rattle.jsp_reply.specs.declared.refusal.Refusal.TheVariants.{TooLong}
 use Rattle.jsp_model.specs.declared.state.State.{State}
 use Rattle.jsp_model.specs.declared.step.Step.{Step}
@@ -89,42 +89,6 @@ serving_more s old mid now before log after first line line' x h gives acts take
       is_open = gives.stays ∙ h.is_open;
     }
 
--- the rest is less than a frame
-serves_more : (s : ℕ) (old now : State) (before log : List Step) (first line line' : Unheard)
-    → Serving s old now before log first line → Answers line next.More line' → Serves s old now before log first line'
-serves_more s old now before log first line line' h a =
-    let same : line ≡ line' = sym a.2 in
-    let version_is : line'.version ≡ version_behind first.version h.payloads = rw same at h.version_is in
-    let unfinished : IsUnfinished (longest (version_behind first.version h.payloads)) line'.rest =
-    subst (λ w. IsUnfinished (longest w) line'.rest) version_is (rw same at a.1) in
-    record {
-      steps = h.steps;
-      makes = h.makes;
-      payloads = h.payloads;
-      split = rw same at h.split;
-      version = version_is;
-      asks = inl (h.own, λ live. unfinished);
-      nothing_due = h.nothing_due;
-      quiet = h.quiet;
-      goes_on = λ live. rw same at h.is_open;
-    }
-
--- the session closed
-serves_closed : (s : ℕ) (old now : State) (before log : List Step) (first line : Unheard)
-    → Serving s old now before log first line → is_open now s ≡ false → Serves s old now before log first line
-serves_closed s old now before log first line h closed =
-    record {
-      steps = h.steps;
-      makes = h.makes;
-      payloads = h.payloads;
-      split = h.split;
-      version = h.version_is;
-      asks = inl (h.own, λ live. absurd (cc (live, closed)));
-      nothing_due = h.nothing_due;
-      quiet = h.quiet;
-      goes_on = λ live. absurd (cc (live, closed));
-    }
-
 -- the line has ended, and so the session is closed
 pub record Served (s : ℕ) (old now : State) (before log : List Step) (first line : Unheard) : Type 0 where
   pub closed : is_open now s ≡ false
@@ -178,22 +142,6 @@ goes_more s old mid now before log after first line line' x (inl h) live (can, i
 goes_more s old mid now before log after first line line' x (inl h) live (can, inr ends) acts accepted =
     inr (serves_long s old mid now before log after first line line' x h live ends
     (subst (λ (y : LineInput). ActsOn mid now log after (input_of s y)) ends.fault acts))
-
-pub goes_until_more : (s : ℕ) (old now : State) (before log : List Step) (first line line' : Unheard)
-    → Goes s old now before log first line → is_open now s ≡ true → Answers line next.More line' → Serves s old now before log first line'
-goes_until_more s old now before log first line line' (inl h) live a = serves_more s old now before log first line line' h a
-goes_until_more s old now before log first line line' (inr ended) live a = absurd (cc (live, ended.closed))
-
-pub goes_until_closed : (s : ℕ) (old now : State) (before log : List Step) (first line : Unheard)
-    → Goes s old now before log first line → is_open now s ≡ false → Serves s old now before log first line
-goes_until_closed s old now before log first line (inl h) closed = serves_closed s old now before log first line h closed
-goes_until_closed s old now before log first line (inr ended) closed = ended.serves
-
--- a line is closed only when it has ended
-pub goes_not_closed : (s : ℕ) (old now : State) (before log : List Step) (first line line' : Unheard)
-    → Goes s old now before log first line → is_open now s ≡ true → Answers line next.Closed line' → Serves s old now before log first line'
-goes_not_closed s old now before log first line line' (inl h) live a = absurd (cc (a.0, h.is_open))
-goes_not_closed s old now before log first line line' (inr ended) live a = absurd (cc (live, ended.closed))
 
 -- ---- how much is left
 

@@ -1,5 +1,5 @@
--- The rows of a request's step: none, or a choice.
-use Rattle.std.proofs.Common.{◌≡◌, ℕ, ◌<◌, true, List, [], ◌∷◌, map, take, Option, Some, None, refl, ap, sym, ◌∙◌, arith}
+-- The rows of a request's step are a choice.
+use Rattle.std.proofs.Common.{◌≡◌, ℕ, ◌<◌, true, List, [], ◌∷◌, map, take, Option, Some, None, ap, sym, ◌∙◌, arith}
 use Rattle.std.specs.Prelude.{nat_lt, option_map}
 use Rattle.std.proofs.lemmas.Bool.{and_parts, ltb-true}
 use Rattle.jsp_model.specs.declared.state.State.{State}
@@ -41,7 +41,3 @@ least_chosen st s id ns (Some q) b rising is chosen =
     let same : b ≡ as_blocked st s id q = cc (is) in
     let first : is_choice st b ns ≡ true = ap (is_choice st b) chosen ∙ first_choice st b (all_rising (λ (r : Row). r.number) 0 st.next_number st.rows rising) in
     ap (λ w. is_choice st w ns) (sym same) ∙ first
-
-pub none_chosen : (st : State) (s id : ℕ) (o : Option RowRequest) → None ≡ option_map (as_blocked st s id) o → has_its_rows st s id [] None o ≡ true
-none_chosen st s id None is = refl
-none_chosen st s id (Some q) is = cc (is)

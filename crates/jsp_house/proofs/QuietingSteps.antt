@@ -6,36 +6,19 @@ use Rattle.std.proofs.lemmas.Bool.{and_parts, and_from, eqb-true, eqb-false, not
 use Rattle.jsp_model.specs.declared.state.State.{State}
 use Rattle.jsp_model.specs.declared.state.Registration.{Registration}
 use Rattle.jsp_model.specs.declared.state.Blocked.{Blocked}
-use Rattle.jsp_model.specs.declared.step.Step.{Step}
 use Rattle.jsp_model.specs.declared.step.Step.TheVariants as step
 use Rattle.jsp_model.specs.Limits.{IsWithinLimits}
 use Rattle.jsp_model.specs.Sight.{available}
 use Rattle.jsp_model.specs.Quiet.{must_wait, is_quiet}
 use Rattle.jsp_model.specs.Steps.{is_legal}
 use Rattle.jsp_model.specs.Lookup.{registration_of}
-use Rattle.jsp_model.specs.House.{is_unasked, all_must_wait, comes_in_turn}
+use Rattle.jsp_model.specs.House.{all_must_wait, comes_in_turn}
 use Rattle.std.specs.Prelude.{Option}
 use Rattle.std.specs.Option.{option_map_or}
 use Rattle.jsp_laws.proofs.Lists.{Has, each_has, found_has}
-use Rattle.jsp_quiet.specs.Quieting.{quiets}
 use Rattle.jsp_quiet.proofs.Progress.{can_grant, can_empty, can_tell, find_only}
 use Rattle.jsp_quiet.proofs.Lists.{all_has, find_none}
 use Rattle.jsp_house.proofs.Places.{limits_rising, limits_some}
-
--- a step that quiets a space is asked for by nobody
-pub quieting_unasked : (x : Step) → quiets x ≡ true → is_unasked x ≡ true
-quieting_unasked (step.Grant n ns) h = refl
-quieting_unasked (step.Empty n) h = refl
-quieting_unasked (step.Tell n) h = refl
-quieting_unasked (step.Open s) h = absurd (cc)
-quieting_unasked (step.Shut s) h = absurd (cc)
-quieting_unasked (step.Clock t) h = absurd (cc)
-quieting_unasked (step.Ask s a ns) h = absurd (cc)
-quieting_unasked (step.Fault s id r) h = absurd (cc)
-quieting_unasked (step.Due item) h = absurd (cc)
-quieting_unasked (step.Vote x space) h = absurd (cc)
-quieting_unasked (step.Decide x c) h = absurd (cc)
-quieting_unasked (step.HandOut s n) h = absurd (cc)
 
 abbrev pub grantable : State → ℕ → Blocked → Bool
 grantable st p b = b.space == p && not (length (available st b) == 0)

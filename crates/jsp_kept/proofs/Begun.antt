@@ -1,8 +1,5 @@
 -- Opening and closing sessions.
-use Rattle.std.proofs.Common.{◌≡◌, ℕ, ◌+◌, ◌<◌, ◌^◌, Bool, true, false, List, [], ◌∷◌, ◌++◌, length, get_or, sum, Some, zero, suc, refl, sym, ◌∙◌, ap, subst, arith, add-zero, Result, Err, length-append}
-use Rattle.std.specs.Prelude.{◌==◌, ◌||◌}
-use Rattle.std.specs.List.{list_all}
-use Rattle.std.proofs.lemmas.Bool.{and_from, eq-eqb}
+use Rattle.std.proofs.Common.{◌≡◌, ℕ, ◌+◌, ◌<◌, ◌^◌, true, false, List, [], ◌∷◌, ◌++◌, length, get_or, sum, Some, zero, suc, refl, sym, ◌∙◌, ap, subst, arith, add-zero, Result, Err, length-append}
 use Rattle.std.proofs.lemmas.Bool.Decides.{nat_tests}
 use Rattle.std.proofs.lemmas.List.Sums.{sum_by-append}
 use Rattle.jsp_model.specs.declared.state.State.{State}
@@ -11,10 +8,8 @@ use Rattle.jsp_model.specs.declared.step.Step.TheVariants as step
 use Rattle.jsp_model.specs.declared.house.Input.{Input}
 use Rattle.jsp_model.specs.declared.house.Input.TheVariants as input
 use Rattle.jsp_model.specs.declared.house.Stopped.{Stopped}
-use Rattle.jsp_model.specs.Lookup.{contains, is_open}
-use Rattle.jsp_model.specs.Quiet.{is_quiet}
-use Rattle.jsp_model.specs.House.{Leaves, touched, Makes, OpensNone, KeepsRoom, accepts, acted, was_done, own_of, shuts}
-use Rattle.jsp_model.proofs.Joining.{Makes-none}
+use Rattle.jsp_model.specs.Lookup.{is_open}
+use Rattle.jsp_model.specs.House.{Leaves, touched, Makes, KeepsRoom, accepts, acted, was_done, own_of, shuts}
 use Rattle.jsp_kept.specs.History.{History, IsKept, Beside, IsWhole, limit_of}
 use Rattle.jsp_kept.specs.Calls.{KeepsEra, KeepsAsks, KeepsOuts}
 use Rattle.jsp_kept.specs.Eras.{Performs}
@@ -25,9 +20,6 @@ use Rattle.jsp_kept.proofs.Owns.{IsUncounted, none_counted, undone_own}
 use Rattle.jsp_kept.proofs.Keeping.{CountsUp, StaysWithin, KeepsShares, kept_on, last_on, whole_on}
 
 -- ---- an act that isn't made
-
-pub undone_open : (s : ℕ) (r : Result Unit Stopped) (e : Stopped) → r ≡ Err e → OpensNone (input.Open s) r → e.done ≡ false
-undone_open s r e is opens = subst (λ (w : Result Unit Stopped). OpensNone (input.Open s) w) is opens
 
 pub undone_counts : (st : State) (x : Input) (r : Result Unit Stopped) (e : Stopped) → r ≡ Err e → e.done ≡ false → IsUncounted (acted st x r)
 undone_counts st x r e is not_done = subst IsUncounted (sym (undone_own st x r (ap was_done is ∙ not_done))) none_counted

@@ -1,11 +1,9 @@
 -- When an era is full, and what stops a call in it.
-use Rattle.std.proofs.Common.{◌≡◌, ℕ, ◌+◌, ◌<◌, ◌≤◌, List, [], ◌++◌, Bool, true, false, length, Option, Some, Result, Ok, Err, refl, sym, ◌∙◌, ap, subst, arith, true≢false, length-append}
-use Rattle.std.specs.Prelude.{IfErr, IsTrue, nat_le}
-use Rattle.std.proofs.lemmas.Bool.{leb-true, le-leb}
-use Rattle.std.proofs.lemmas.Bool.Decides.{nat_tests}
+use Rattle.std.proofs.Common.{◌≡◌, ℕ, ◌+◌, ◌<◌, ◌≤◌, List, [], true, false, length, Option, Some, Result, Ok, Err, refl, ◌∙◌, ap, subst, arith, length-append}
+use Rattle.std.specs.Prelude.{IfErr}
+use Rattle.std.proofs.lemmas.Bool.{leb-true}
 use Rattle.jsp_model.specs.declared.state.State.{State}
 use Rattle.jsp_model.specs.declared.step.Step.{Step}
-use Rattle.jsp_model.specs.declared.house.Input.{Input}
 use Rattle.jsp_model.specs.declared.house.Stopped.{Stopped}
 use Rattle.jsp_model.specs.declared.house.Settled.{Settled}
 use Rattle.jsp_model.specs.declared.house.Why.{Why}
@@ -14,7 +12,7 @@ use Rattle.jsp_model.specs.Runs.{state_after}
 use Rattle.jsp_model.specs.House.{Makes, MayStop, WasFull, is_full, own_of, settled_by}
 use Rattle.jsp_quiet.proofs.Falls.{free_run_falls}
 use Rattle.jsp_quiet.proofs.Unasked.{all_unasked}
-use Rattle.jsp_kept.specs.History.{History, Beside, IsWhole, limit_of}
+use Rattle.jsp_kept.specs.History.{History, Beside, IsWhole}
 use Rattle.jsp_kept.specs.Eras.{HasPlace, NeedsMemory, left_to_make}
 
 -- ---- the bound
@@ -36,10 +34,6 @@ needs_memory h b n m (Err e) whole place is full may = λ undone. at e.why refl 
     at why.EraFull same k undone = absurd (place_free h b n whole place is (full same undone))
     at why.Sessions same k undone = absurd k
     at why.Audit same k undone = absurd k
-
-pub undone_needs : (r : Result Unit Stopped) → IfErr r NeedsMemory → IfErr r (λ e. e.done ≡ false) → IfErr r (λ e. (e.done ≡ false) × (e.why ≡ why.NoMemory))
-undone_needs (Ok u) h k = tt
-undone_needs (Err e) h k = (k, h k)
 
 -- ---- steps that nobody asked for
 

@@ -13,7 +13,7 @@ use Rattle.jsp_model.specs.declared.house.Stopped.{Stopped}
 use Rattle.jsp_model.specs.declared.house.Settled.{Settled}
 use Rattle.jsp_model.specs.Lookup.{is_open}
 use Rattle.jsp_model.specs.Settling.{settle_step, first_voting, turn_of}
-use Rattle.jsp_model.specs.House.{own_of, accepts, step_of, acted, was_done, settled_by, handed_out, is_input}
+use Rattle.jsp_model.specs.House.{own_of, accepts, step_of, acted, was_done, settled_by, handed_out}
 use Rattle.jsp_drive.specs.declared.hear.LineInput.{LineInput}
 use Rattle.jsp_drive.specs.declared.hear.LineInput.TheVariants as line
 use Rattle.jsp_kept.specs.Counts.{asks_of, outs_of, shuts_of}
@@ -113,10 +113,6 @@ one_counts true s (line.Fault id r) = record { asks = λ t. zero-add _; outs = �
 
 act_own : (st : State) (s : ℕ) (given : LineInput) (r : Result Unit Stopped) → CountsAsk (acted st (input_of s given) r) s (made (is_open st s) r)
 act_own st s given r = rw (accepts_line st s given) (one_counts (is_open st s && was_done r) s given)
-
-pub line_is_of : (s : ℕ) (given : LineInput) → IsOf s (input_of s given)
-line_is_of s (line.Ask a) = refl
-line_is_of s (line.Fault id r) = refl
 
 -- the same of an input
 pub own_of_session : (st : State) (s : ℕ) (x : Input) (r : Result Unit Stopped) → IsOf s x → CountsAsk (acted st x r) s (made (is_open st s) r)

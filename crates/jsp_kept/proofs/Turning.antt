@@ -1,30 +1,27 @@
 -- Settle turns, in one era or in several.
-use Rattle.std.proofs.Common.{◌≡◌, ℕ, List, [], ◌∷◌, ◌++◌, Bool, true, false, Option, Some, None, Result, Ok, Err, refl, sym, ◌∙◌, ap, subst}
-use Rattle.std.specs.Prelude.{IfOk, IfErr, is_none, if◌then◌else◌, option_to_list, option_map}
+use Rattle.std.proofs.Common.{◌≡◌, ℕ, List, [], ◌∷◌, Bool, true, false, Option, Some, None, Result, Ok, Err, refl, sym, ◌∙◌, ap, subst}
+use Rattle.std.specs.Prelude.{IfOk, is_none, if◌then◌else◌, option_to_list}
 use Rattle.jsp_model.specs.declared.state.State.{State}
 use Rattle.jsp_model.specs.declared.step.Step.{Step}
-use Rattle.jsp_model.specs.declared.step.Step.TheVariants as step
 use Rattle.jsp_model.specs.declared.house.Stopped.{Stopped}
 use Rattle.jsp_model.specs.declared.house.Settled.{Settled}
 use Rattle.jsp_model.specs.declared.house.Settled.TheVariants as settled
 use Rattle.jsp_model.specs.declared.house.Why.TheVariants as why
 use Rattle.jsp_model.specs.Settling.{settle_step, first_unquiet, AllQuiet}
-use Rattle.jsp_model.specs.House.{Answers, AnswersOf, Covers, Leaves, answer_to, next_turn, own_of, settled_by, was_done}
-use Rattle.std.specs.Prelude.{not, find, ◌&&◌}
-use Rattle.std.specs.List.{list_all}
+use Rattle.jsp_model.specs.House.{Answers, AnswersOf, Covers, Leaves, settled_by, was_done}
+use Rattle.std.specs.Prelude.{not}
 use Rattle.std.proofs.lemmas.Bool.{and_parts, not-true}
 use Rattle.std.proofs.Common.{true≢false}
-use Rattle.jsp_model.specs.Lookup.{contains}
 use Rattle.jsp_model.specs.Quiet.{is_quiet, are_quiet}
 use Rattle.jsp_model.specs.Settling.{places}
 use Rattle.jsp_model.specs.House.{touched}
-use Rattle.jsp_laws.proofs.Lists.{Has, each_has, each_by_all, found_has}
+use Rattle.jsp_laws.proofs.Lists.{each_has, each_by_all, found_has}
 use Rattle.jsp_quiet.specs.Steady.{IsSteady}
 use Rattle.jsp_quiet.proofs.Covering.{all_parts, covered}
-use Rattle.jsp_quiet.proofs.Unasked.{LeavesVotes, free_run_leaves, same_turn, still_accepts}
-use Rattle.jsp_quiet.proofs.Turns.{none_unquiet, settle_answers, still_quiet}
+use Rattle.jsp_quiet.proofs.Unasked.{LeavesVotes, free_run_leaves, same_turn}
+use Rattle.jsp_quiet.proofs.Turns.{none_unquiet, still_quiet}
 use Rattle.jsp_kept.specs.Calls.{outcome}
-use Rattle.jsp_kept.specs.Eras.{Performs, Prepares, NeedsMemory, no_memory}
+use Rattle.jsp_kept.specs.Eras.{Performs, Prepares, no_memory}
 use Rattle.jsp_kept.specs.History.{History}
 use Rattle.jsp_kept.proofs.Growing.{performs_then, performs_on}
 
@@ -56,16 +53,6 @@ answers_then h k new settled.Voted p votes a = (a.0, a.1, sym (prepares_turn h k
 answers_then h k new settled.Decided p votes a = (a.0, a.1, sym (prepares_turn h k p) ∙ a.2)
 answers_then h k new settled.Quieted p votes a = absurd (votes (sym (prepares_turn h k p) ∙ a.0))
 answers_then h k new settled.Idle p votes a = absurd (votes (sym (prepares_turn h k p) ∙ a.0))
-
-pub turn_votes : (st : State) (turn : Settled) → next_turn st ≡ Some turn → settle_step st ≡ None → ⊥
-turn_votes st turn is none = cc (rw none at is)
-
-pub turn_answers : (st new : State) (turn : Settled) → next_turn st ≡ Some turn → Answers st new turn
-turn_answers st new turn is = at (settle_step st) refl is
-  where
-    at : (o : Option Step) → settle_step st ≡ o → option_map answer_to o ≡ Some turn → Answers st new turn
-    at None e k = absurd (cc)
-    at (Some x) e k = let same : answer_to x ≡ turn = cc (k) in subst (Answers st new) same (settle_answers st new x e)
 
 pub settled_done : (st : State) (e : Stopped) (s : Settled) → e.done ≡ true → settled_by st (Err e) ≡ settled_by st (Ok s)
 settled_done st e s done = rw done refl
@@ -119,7 +106,3 @@ pub quiet_performs : (h k l : History) (e : Stopped) (r : Result Settled Stopped
     → Performs h l (settled_by h.state r) (outcome r)
 quiet_performs h k l e r none first rest =
     performs_on h k l (settled_by h.state r) e (outcome r) (subst (λ own. Performs h k own (Err e)) (none_settled h.state (Err e) none ∙ sym (none_settled h.state r none)) first) rest
-
-pub by_memory : (r : Result Settled Stopped) → IfErr r (λ e. e ≡ no_memory false) → IfErr r (λ e. e.why ≡ why.NoMemory)
-by_memory (Ok s) h = tt
-by_memory (Err e) h = ap (λ (x : Stopped). x.why) h

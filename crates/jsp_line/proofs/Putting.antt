@@ -8,9 +8,6 @@ use Rattle.crossbeam_queue.specs.Fifo.{Pushes, Pops, Admits}
 use Rattle.crossbeam_queue.proofs.Lists.{set_again, at_longer}
 use Rattle.jsp_line.specs.Slots.{AreAll, HoldsLast}
 
-pub begins : HoldsLast [] ([] ∷ [])
-begins = ([], refl, tt)
-
 -- the owner's pass is the first
 first_set : (views : List (List ℕ)) (v w : List ℕ) → get_elem? views 0 ≡ some v → get_elem? (set views 0 w) 0 ≡ some w
 first_set [] v w at = absurd (some-ne-none v (sym at))

@@ -5,8 +5,8 @@ use Rattle.std.proofs.KnownBytes.{Consumes-trans, Consumes-nil}
 use Rattle.jsp_model.specs.declared.step.Step.{Step}
 use Rattle.jsp_wire.specs.declared.ask.Version.TheVariants as version
 use Rattle.jsp_drive.specs.Line.{Unheard, start as begin, IsOutOfMemory}
-use Rattle.jsp_drive.specs.Giving.{Gave, GaveAll, FeedsStream}
-use Rattle.jsp_drive.proofs.Splitting.{SplitsInto-nil, SplitsInto-append}
+use Rattle.jsp_drive.specs.Giving.{Gave, GaveAll}
+use Rattle.jsp_drive.proofs.Splitting.{SplitsInto-nil}
 use Rattle.jsp_line.specs.declared.transcript.Transcript.{Transcript}
 use Rattle.jsp_drive.specs.declared.ended.Ended.{Ended}
 use Rattle.jsp_drive.specs.declared.ended.Ended.TheVariants.{End, Failed, Bound, Closing, Cut, Stopped}
@@ -30,21 +30,6 @@ gave_stopped s stream asked old new out h = record {
   asked_is = h.asked_is;
   stands = rw out tt;
 }
-
--- so the bytes that it couldn't be fed are in its stream too
-pub fed_stopped : (old new : Unheard) (piece : List ℕ) → IsOutOfMemory new → FeedsStream old piece new
-fed_stopped old new piece out = λ s stream asked h. record {
-  payloads = h.payloads;
-  rest = h.rest ++ piece;
-  too_long = h.too_long;
-  split = SplitsInto-append version.One stream h.payloads h.rest piece h.split;
-  asked_is = h.asked_is;
-  stands = rw out tt;
-}
-
--- no bytes are fed
-pub fed_nothing : (line : Unheard) → FeedsStream line [] line
-fed_nothing line = λ s stream asked h. rw (append-nil stream) h
 
 -- ---- turns
 

@@ -1,8 +1,7 @@
 -- What a line's writing half keeps from call to call.
-use Rattle.std.proofs.Common.{◌≡◌, ℕ, ◌+◌, ◌<◌, true, List, [], ◌∷◌, ◌++◌, length, take, drop, get_or, refl, ap, sym, ◌∙◌, append_assoc, append-nil, length-append, take-append-drop}
+use Rattle.std.proofs.Common.{◌≡◌, ℕ, ◌+◌, true, List, [], ◌++◌, length, take, drop, refl, ap, sym, ◌∙◌, append_assoc, append-nil, length-append, take-append-drop}
 use Rattle.std.specs.Prelude.{Option}
 use Rattle.std.proofs.lemmas.Grind.{flat_map-append}
-use Rattle.std.proofs.lemmas.List.{take_more}
 use Rattle.std.proofs.Math.Seq.{take-length}
 use Rattle.std.proofs.KnownBytes.{Appends-trans, Appends-nil}
 use Rattle.jsp_reply.specs.declared.reply.Reply.{Reply}
@@ -13,13 +12,6 @@ use Rattle.jsp_line.specs.declared.half.Health.TheVariants.{Sound, Failed}
 use Rattle.jsp_line.specs.Bytes.{IsTranscript}
 use Rattle.jsp_drive.specs.Bytes.{frames}
 use Rattle.jsp_line.specs.Halves.{is_sound, Puts, IsHalf, Writes, WritesPile}
-
--- one answer more
-pub frames_more : (all : List Reply) (i : ℕ) (d : Reply) → i < length all → frames (take (i + 1) all) ≡ frames (take i all) ++ framed (get_or all i d)
-frames_more all i d within =
-    ap frames (take_more all i d within)
-    ∙ flat_map-append framed (take i all) (get_or all i d ∷ [])
-    ∙ ap (λ l. frames (take i all) ++ l) (append-nil (framed (get_or all i d)))
 
 -- before the first answer
 pub half_start : (start now : Option (List ℕ)) (count failures : ℕ) (health : Health) (pile : List ℕ) (transcript : Transcript)

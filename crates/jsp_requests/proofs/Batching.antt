@@ -1,7 +1,7 @@
 -- Batches of leases: one item more.
 use Rattle.std.proofs.Common.{◌≡◌, ℕ, ℤ, ◌+◌, ◌<◌, ◌≤◌, List, [], ◌∷◌, ◌++◌, length, map, take, get_or, ap, sym, ◌∙◌}
 use Rattle.std.specs.List.{scan}
-use Rattle.std.proofs.lemmas.List.{take_more, map-append}
+use Rattle.std.proofs.lemmas.List.{take_more}
 use Rattle.jsp_reply.specs.declared.reply.LeaseAnswer.{LeaseAnswer}
 use Rattle.jsp_model.specs.declared.state.State.{State}
 use Rattle.jsp_model.specs.Changes.{renew_one, cancel_one}
@@ -9,11 +9,6 @@ use Rattle.jsp_model.specs.Answers.{renew_answer, cancel_answer}
 use Rattle.jsp_model.specs.Limits.{bearers}
 use Rattle.jsp_model.proofs.Renewing.{renew_answers}
 use Rattle.jsp_model.proofs.Cancelling.{cancel_outcome, cancel_answers_more}
-
--- one lease more is renewed, by what the state before the batch says
-pub renewed_more : (st : State) (leases : List (ℤ × ℤ)) (i : ℕ) (d : ℤ × ℤ) (old new : List LeaseAnswer) → i < length leases → old ≡ map (renew_answer st) (take i leases) → new ≡ old ++ renew_answer st (get_or leases i d) ∷ [] → new ≡ map (renew_answer st) (take (i + 1) leases)
-renewed_more st leases i d old new lt so more =
-    more ∙ (ap (λ w. w ++ renew_answer st (get_or leases i d) ∷ []) so ∙ (sym (map-append (renew_answer st) (take i leases) (get_or leases i d ∷ [])) ∙ ap (map (renew_answer st)) (sym (take_more leases i d lt))))
 
 pub all_renewed : (st : State) (leases : List (ℤ × ℤ)) (found : List LeaseAnswer) → found ≡ map (renew_answer st) leases → found ≡ scan renew_one renew_answer st leases
 all_renewed st leases found is = is ∙ sym (renew_answers st leases)

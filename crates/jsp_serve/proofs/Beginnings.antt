@@ -1,13 +1,9 @@
 -- Bytes that are written in parts.
-use Rattle.std.proofs.Common.{◌≡◌, ℕ, ◌-◌, arith, length-append, List, [], ◌++◌, Option, length, take, drop, ap, sym, ◌∙◌, append_assoc, append-nil, take-append-drop}
+use Rattle.std.proofs.Common.{◌≡◌, ℕ, ◌-◌, arith, length-append, List, ◌++◌, Option, length, take, drop, ap, sym, ◌∙◌, append_assoc, take-append-drop}
 use Rattle.std.specs.Io.KnownBytes.{Appends}
 use Rattle.std.proofs.KnownBytes.{Appends-trans}
 use Rattle.std.proofs.lemmas.List.{take_rest}
 use Rattle.jsp_serve.specs.Faults.{AppendsPart, AppendsSome}
-
--- all of them are some of them
-pub some_from_all : (old new : Option (List ℕ)) (text : List ℕ) → Appends old new text → AppendsSome old new text
-some_from_all old new text h = record { written = text; rest = []; text_is = sym (append-nil text); appends = h }
 
 -- some of the first part, and nothing of the second
 pub some_of_first : (old new : Option (List ℕ)) (first second : List ℕ) → AppendsSome old new first → AppendsSome old new (first ++ second)

@@ -6,12 +6,12 @@ use Rattle.std.specs.Option.{option_map_or}
 use Rattle.jsp_types.specs.declared.class.Class.{Class}
 use Rattle.jsp_types.specs.declared.entry.Raw.{Raw}
 use Rattle.jsp_types.specs.Tests.{first_that}
-use Rattle.jsp_types.specs.Matching.{is_unknown, is_bad, entry_fault, template_fault}
+use Rattle.jsp_types.specs.Matching.{is_unknown, is_bad, template_fault}
 use Rattle.jsp_reply.specs.declared.refusal.Refusal.{Refusal}
 use Rattle.jsp_reply.specs.declared.refusal.Refusal.TheVariants.{UnknownClass, BadEntry}
 use Rattle.jsp_model.specs.declared.state.State.{State}
-use Rattle.jsp_model.specs.Refusals.{entry_tests, template_tests}
-use Rattle.jsp_state.specs.Fitting.{AllFit, AllAccepted}
+use Rattle.jsp_model.specs.Refusals.{template_tests}
+use Rattle.jsp_state.specs.Fitting.{AllFit}
 
 pub any_or : {X : Type 0} (p q : X → Bool) (xs : List X) → list_any (λ x. p x || q x) xs ≡ (list_any p xs || list_any q xs)
 any_or p q [] = refl
@@ -73,18 +73,3 @@ all_fit st ts h =
     let given = filter_map (λ t. t) ts in
     let good = neither (list_any (is_unknown st.classes) given) (list_any (is_bad st.classes) given) h in
     λ k d lt. each_fits st.classes ts k d (sym (any_given (is_unknown st.classes) ts) ∙ good.0) (sym (any_given (is_bad st.classes) ts) ∙ good.1) lt
-
--- ---- entries that aren't refused
-
-accepted_at : (classes : List Class) (raws : List Raw) (k : ℕ) (d : Raw) → list_any (is_unknown classes) raws ≡ false → list_any (is_bad classes) raws ≡ false → k < length raws → entry_fault classes (slice_index_or raws k d) ≡ None
-accepted_at classes [] k d known good lt = absurd (omega (arith, lt))
-accepted_at classes (raw ∷ raws) zero d known good lt =
-    let here = or_false (is_unknown classes raw) (list_any (is_unknown classes) raws) known in
-    let right = or_false (is_bad classes raw) (list_any (is_bad classes) raws) good in
-    rw (here.0, right.0) refl
-accepted_at classes (raw ∷ raws) (suc k) d known good lt = accepted_at classes raws k d (or_false _ _ known).1 (or_false _ _ good).1 (omega (arith, lt))
-
-pub all_accepted : (st : State) (raws : List Raw) → first_that (entry_tests st raws) ≡ None → AllAccepted st.classes raws
-all_accepted st raws h =
-    let good = neither (list_any (is_unknown st.classes) raws) (list_any (is_bad st.classes) raws) h in
-    λ k d lt. accepted_at st.classes raws k d good.0 good.1 lt

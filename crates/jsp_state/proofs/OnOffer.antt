@@ -1,6 +1,6 @@
 -- Whoever may be given a row may be given one on offer.
 use Rattle.std.proofs.Common.{◌≡◌, refl, sym, ap, ◌∙◌, ℕ, List, [], ◌∷◌, map, filter, length, Bool, true, false, not, cond, ◌&&◌, ◌||◌, ◌==◌, find, Option, Some, None, true≢false, eq-eqb, eqb-true, nat_lt, ◌<◌, ◌≤◌, subst, arith}
-use Rattle.std.specs.Prelude.{option_map, is_some, is_none}
+use Rattle.std.specs.Prelude.{option_map, is_none}
 use Rattle.std.specs.List.{list_any, list_all}
 use Rattle.std.specs.Option.{option_map_or}
 use Rattle.std.proofs.lemmas.Bool.{and_parts, and_from, false_from_ne_true, ne_eqb, ltb-true}
@@ -11,10 +11,9 @@ use Rattle.jsp_model.specs.Lookup.{contains}
 use Rattle.jsp_model.specs.Sight.{is_available, available, is_if, has_conflict}
 use Rattle.jsp_model.specs.Quiet.{must_wait}
 use Rattle.jsp_model.specs.Limits.{are_rising}
-use Rattle.jsp_types.specs.declared.class.Class.{Class}
 use Rattle.jsp_sight.specs.Rows.{wanted}
 use Rattle.jsp_wait.specs.Offered.{IsAsked, AskForIt, takes_one, waits_no_more}
-use Rattle.jsp_core.specs.Offering.{is_offered, are_offered}
+use Rattle.jsp_core.specs.Offering.{are_offered}
 use Rattle.jsp_state.specs.Taking.{may_take}
 
 -- ---- lists
@@ -271,15 +270,6 @@ none_takes st (b ∷ bs) e = go (available st b) refl e (none_takes st bs)
 
 pub none_offered : (st : State) → find (λ b. not (length (available st b) == 0)) st.blocked ≡ None → are_offered (Some []) st ≡ true
 none_offered st e = none_takes st st.blocked e
-
--- a search finds something where one passes
-pub found_any : {A : Type 0} (t : A → Bool) (xs : List A) → is_some (find t xs) ≡ list_any t xs
-found_any t [] = refl
-found_any {A = A} t (x ∷ xs) = go (t x) (found_any t xs)
-  where
-    go : (b : Bool) → is_some (find t xs) ≡ list_any t xs → is_some (cond b (Some x) (find t xs)) ≡ (b || list_any t xs)
-    go true ih = refl
-    go false ih = ih
 
 pub none_found : {A : Type 0} (o : Option A) → is_none o ≡ true → o ≡ None
 none_found None e = refl

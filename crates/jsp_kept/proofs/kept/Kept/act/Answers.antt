@@ -1,12 +1,11 @@
-use Rattle.std.proofs.Common.{rules, ◌≡◌, true, refl, sym, subst, ap, Ok, Err}
+use Rattle.std.proofs.Common.{rules, ◌≡◌, true, subst, ap, Ok, Err}
 use Rattle.jsp_model.specs.declared.house.Input.{Input}
 use Rattle.jsp_model.specs.declared.house.Stopped.{Stopped}
 use Rattle.jsp_model.specs.House.{acted}
 use Rattle.jsp_model.specs.Lookup.{is_open}
 use Rattle.jsp_drive.specs.Line.{input_of}
 use Rattle.jsp_kept.specs.Eras.{Performs}
-use Rattle.jsp_kept.proofs.Owns.{line_is_of}
-use Rattle.jsp_kept.proofs.Growing.{performs_unmade, asks_then}
+use Rattle.jsp_kept.proofs.Growing.{performs_unmade}
 use Rattle.jsp_kept.proofs.Passing.{acted_then, acted_on, raises_none, raises_then, raises_on}
 use Rattle.jsp_kept.proofs.kept.Kept.act.Goals as goal
 

@@ -6,8 +6,7 @@ use Rattle.jsp_kept.proofs.Counting.{whole_quietly}
 use Rattle.jsp_kept.specs.Eras.{no_memory}
 use Rattle.jsp_kept.proofs.Keeping.{grows_quietly, stays_within}
 use Rattle.jsp_kept.proofs.Growing.{covers_itself, performs_in_era}
-use Rattle.jsp_kept.proofs.Ending.{needs_memory, undone_needs}
-use Rattle.jsp_kept.proofs.Begun.{undone_open, undone_counts, accepts_next, opens_only, grows_by_open, performs_begun, whole_begun}
+use Rattle.jsp_kept.proofs.Begun.{undone_counts, accepts_next, opens_only, grows_by_open, performs_begun, whole_begun}
 use Rattle.jsp_kept.proofs.kept.Kept.open_in_era.Goals as goal
 
 pub invariant_of-self-in-Err-act_ready : goal.invariant_of-self-in-Err-act_ready
