@@ -1,22 +1,14 @@
 -- How the splitting of a stream into frames grows with the stream.
-use Rattle.std.proofs.Common.{◌≡◌, ℕ, ◌<◌, ◌≤◌, ◌↔◌, List, [], ◌∷◌, ◌++◌, flat_map, refl, ap, sym, ◌∙◌, subst, inr, arith, append_assoc, append-nil, length-append}
+use Rattle.std.proofs.Common.{◌≡◌, ℕ, ◌<◌, List, [], ◌∷◌, ◌++◌, flat_map, refl, ap, sym, ◌∙◌, subst, arith, append_assoc, append-nil, length-append}
 use Rattle.std.proofs.lemmas.Grind.{flat_map-append}
-use Rattle.std.proofs.lemmas.List.{append_cancel_left, take-append-le}
+use Rattle.std.proofs.lemmas.List.{take-append-le}
 use Rattle.std.specs.Int.{w32, from_be_bytes}
-use Rattle.jsp_frame.specs.Stream.{frame_of, named_length, IsTooLong, BeginsWith, AreWithin, SplitsInto, Reads}
+use Rattle.jsp_frame.specs.Stream.{frame_of, named_length, IsTooLong, BeginsWith, AreWithin, SplitsInto}
 
 AreWithin-append : (limit : ℕ) (ps qs : List (List ℕ))
     → AreWithin limit ps → AreWithin limit qs → AreWithin limit (ps ++ qs)
 AreWithin-append limit [] qs first second = second
 AreWithin-append limit (p ∷ ps) qs first second = (first.0, AreWithin-append limit ps qs first.1 second)
-
-AreWithin-back : (limit : ℕ) (ps qs : List (List ℕ)) → AreWithin limit (ps ++ qs) → AreWithin limit qs
-AreWithin-back limit [] qs both = both
-AreWithin-back limit (p ∷ ps) qs both = AreWithin-back limit ps qs both.1
-
-AreWithin-wider : (a b : ℕ) (ps : List (List ℕ)) → a ≤ b → AreWithin a ps → AreWithin b ps
-AreWithin-wider a b [] le each = tt
-AreWithin-wider a b (p ∷ ps) le each = (omega (arith, each.0), AreWithin-wider a b ps le each.1)
 
 flat_map-frame_of : (ps qs : List (List ℕ)) (rest : List ℕ)
     → flat_map frame_of (ps ++ qs) ++ rest ≡ flat_map frame_of ps ++ (flat_map frame_of qs ++ rest)
@@ -45,16 +37,6 @@ SplitsInto-join limit stream ps qs rest last first second = record {
   whole = first.whole ∙ ap (λ r. flat_map frame_of ps ++ r) second.whole ∙ sym (flat_map-frame_of ps qs last);
 }
 
--- the other way: what the rest is split into
-pub SplitsInto-rest : (limit : ℕ) (stream : List ℕ) (ps qs : List (List ℕ)) (rest last : List ℕ)
-    → SplitsInto limit stream ps rest → SplitsInto limit stream (ps ++ qs) last
-    → SplitsInto limit rest qs last
-SplitsInto-rest limit stream ps qs rest last first both = record {
-  within = AreWithin-back limit ps qs both.within;
-  whole = append_cancel_left (flat_map frame_of ps) rest (flat_map frame_of qs ++ last)
-      (sym first.whole ∙ both.whole ∙ flat_map-frame_of ps qs last);
-}
-
 -- one frame more is taken
 pub SplitsInto-frame : (limit : ℕ) (stream : List ℕ) (ps : List (List ℕ)) (rest payload last : List ℕ)
     → SplitsInto limit stream ps rest → BeginsWith limit rest payload last
@@ -66,43 +48,9 @@ SplitsInto-frame limit stream ps rest payload last split begins =
     } in
     SplitsInto-join limit stream ps (payload ∷ []) rest last split one
 
--- what is within a limit is within a wider one
-pub SplitsInto-wider : (a b : ℕ) (stream : List ℕ) (ps : List (List ℕ)) (rest : List ℕ)
-    → a ≤ b → SplitsInto a stream ps rest → SplitsInto b stream ps rest
-SplitsInto-wider a b stream ps rest le split = record {
-  within = AreWithin-wider a b ps le split.within;
-  whole = split.whole;
-}
-
--- A piece more: where the stream was split into ps and a rest, the longer stream reads as ps and then
--- qs exactly where the rest with the piece reads as qs.
-pub Reads-append : (limit : ℕ) (stream : List ℕ) (ps : List (List ℕ)) (rest piece : List ℕ) (qs : List (List ℕ)) (last : List ℕ)
-    → SplitsInto limit stream ps rest
-    → Reads limit (stream ++ piece) (ps ++ qs) last ↔ Reads limit (rest ++ piece) qs last
-Reads-append limit stream ps rest piece qs last split =
-    let longer = SplitsInto-append limit stream ps rest piece split in (
-      λ reads. record {
-        split = SplitsInto-rest limit (stream ++ piece) ps qs (rest ++ piece) last longer reads.split;
-        ended = reads.ended;
-      },
-      λ reads. record {
-        split = SplitsInto-join limit (stream ++ piece) ps qs (rest ++ piece) last longer reads.split;
-        ended = reads.ended;
-      },
-    )
-
 -- more bytes leave a length past the limit
 pub IsTooLong-append : (limit : ℕ) (rest more : List ℕ) → IsTooLong limit rest → IsTooLong limit (rest ++ more)
 IsTooLong-append limit rest more long =
     let same : named_length (rest ++ more) ≡ named_length rest =
     ap (from_be_bytes w32) (take-append-le 4 rest more long.0) in
     (omega (arith, length-append rest more), subst (λ n. limit < n) (sym same) long.1)
-
--- and the frames before it are all that is ever read
-pub Reads-too_long : (limit : ℕ) (stream : List ℕ) (ps : List (List ℕ)) (rest more : List ℕ)
-    → SplitsInto limit stream ps rest → IsTooLong limit rest
-    → Reads limit (stream ++ more) ps (rest ++ more)
-Reads-too_long limit stream ps rest more split long = record {
-  split = SplitsInto-append limit stream ps rest more split;
-  ended = inr (IsTooLong-append limit rest more long);
-}

@@ -217,11 +217,6 @@ read_begins m x r l rise h e v =
           (λ q. (subst (λ z. contains (given m.step) z ≡ true) (sym q) two.0, ap (λ (z : Row). z.space) (o q)))) st.rows only);
     }
 
-and_last : (a b d : Bool) → (a && (b && d)) ≡ true → d ≡ true
-and_last true true d e = e
-and_last true false d e = absurd (cc)
-and_last false b d e = absurd (cc)
-
 take_by_reader : (n p x : ℕ) (m : Moment) → Legal m → takes m n ≡ true → Kept n p x m.state → viewer m ≡ Some x
 take_by_reader n p x m l e k =
     let st = m.state in

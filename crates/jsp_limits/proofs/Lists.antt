@@ -116,7 +116,7 @@ neq m n d = go (m == n) refl
     go true e = absurd (d (eqb-true m n e))
     go false e = refl
 
--- nothing has a number outside of the range
+-- nothing has a number past the range
 pub count_below : {A : Type 0} (f : A → ℕ) (low high n : ℕ) (xs : List A) → high ≤ n → are_rising low high (map f xs) ≡ true → length (filter (λ x. f x == n) xs) ≡ 0
 count_below f low high n [] le h = refl
 count_below f low high n (x ∷ xs) le h =
@@ -124,15 +124,6 @@ count_below f low high n (x ∷ xs) le h =
     let lt = rising_length f (f x) high xs parts.1 in
     let off : (f x == n) ≡ false = neq (f x) n (λ e. omega (arith, lt)) in
     rw off (count_below f (f x) high n xs le parts.1)
-
-pub count_above : {A : Type 0} (f : A → ℕ) (low high n : ℕ) (xs : List A) → n ≤ low → are_rising low high (map f xs) ≡ true → length (filter (λ x. f x == n) xs) ≡ 0
-count_above f low high n [] le h = refl
-count_above f low high n (x ∷ xs) le h =
-    let parts = and_parts (nat_lt low (f x)) (are_rising (f x) high (map f xs)) h in
-    let lt = ltb-true low (f x) parts.0 in
-    let off : (f x == n) ≡ false = neq (f x) n (λ e. omega (arith, lt)) in
-    let more : n ≤ f x = omega (arith, lt) in
-    rw off (count_above f (f x) high n xs more parts.1)
 
 -- one number is changed where it is found
 pub fewer_at : {A : Type 0} {R : A → A → Type 0} → ((x : A) → R x x) → (num : A → ℕ) (f : A → A) (n low high : ℕ) (xs : List A) → are_rising low high (map num xs) ≡ true

@@ -277,9 +277,6 @@ reset_once p = record p { crash_count = p.crash_count + 1 }
 abbrev reset_at : ℕ → List Space → List Space
 reset_at space spaces = take space spaces ++ map reset_once (take 1 (drop space spaces)) ++ drop (space + 1) spaces
 
-reset_first : (p : Space) (spaces : List Space) → reset_at 0 (p ∷ spaces) ≡ reset_once p ∷ spaces
-reset_first p spaces = refl
-
 reset_later : (n : ℕ) (p : Space) (spaces : List Space) → reset_at (suc n) (p ∷ spaces) ≡ p ∷ reset_at n spaces
 reset_later n p spaces = rw (add-one, add-one) refl
 

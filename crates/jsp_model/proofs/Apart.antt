@@ -5,7 +5,6 @@ use Rattle.std.specs.Option.{option_map_or}
 use Rattle.jsp_types.specs.Tests.{first_that}
 use Rattle.jsp_wire.specs.declared.ask.Ask.{Ask}
 use Rattle.jsp_wire.specs.declared.ask.Ask.TheVariants as ask
-use Rattle.jsp_wire.specs.declared.asked.Asked.{Asked}
 use Rattle.jsp_wire.specs.declared.ask.Notify.{Notify}
 use Rattle.jsp_wire.specs.declared.ask.Contents.{Contents}
 use Rattle.jsp_reply.specs.declared.refusal.Refusal.{Refusal}
@@ -209,19 +208,6 @@ unfolding next
 next_posted st x h =
     let boxes = fold post st.outboxes (said st x) in
     change_apart boxes st x ∙ ap (λ w. record (change st x) { outboxes = w }) (sym (handed_other x boxes h))
-
--- the same for a request: it is accepted in the state in which its answer was posted, or stays at that
-pub next_accepted : (st : State) (s : ℕ) (a : Asked) (ns : List ℕ) → refusal st s a.id a.ask ≡ None
-    → accepted (record st { outboxes = fold post st.outboxes (said st (step.Ask s a ns)) }) s a.id ns a.ask ≡ next st (step.Ask s a ns)
-next_accepted st s a ns fine =
-    let boxes = fold post st.outboxes (said st (step.Ask s a ns)) in
-    sym (ap (after_ask (with_outboxes boxes st) s a.id ns a.ask) (refusal_apart boxes st s a.id a.ask ∙ fine)) ∙ next_posted st (step.Ask s a ns) refl
-
-pub next_refused : (st : State) (s : ℕ) (a : Asked) (ns : List ℕ) (r : Refusal) → refusal st s a.id a.ask ≡ Some r
-    → record st { outboxes = fold post st.outboxes (said st (step.Ask s a ns)) } ≡ next st (step.Ask s a ns)
-next_refused st s a ns r why =
-    let boxes = fold post st.outboxes (said st (step.Ask s a ns)) in
-    sym (ap (after_ask (with_outboxes boxes st) s a.id ns a.ask) (refusal_apart boxes st s a.id a.ask ∙ why)) ∙ next_posted st (step.Ask s a ns) refl
 
 -- where nothing is said the change is the step
 pub next_silent : (st : State) (x : Step) → is_hand_out x ≡ false → said st x ≡ [] → change st x ≡ next st x

@@ -120,10 +120,6 @@ filter_all : {A : Type 0} (xs : List A) → filter (λ x. true) xs ≡ xs
 filter_all [] = refl
 filter_all (x ∷ xs) = ap (λ w. x ∷ w) (filter_all xs)
 
-filter_same : {A : Type 0} (p q : A → Bool) → ((x : A) → p x ≡ q x) → (xs : List A) → filter p xs ≡ filter q xs
-filter_same p q h [] = refl
-filter_same p q h (x ∷ xs) = ap (λ b. cond b (x ∷ filter p xs) (filter p xs)) (h x) ∙ ap (λ w. cond (q x) (x ∷ w) w) (filter_same p q h xs)
-
 -- one filter after another, where the second agrees with a third on what the first one leaves
 filter_twice : {A : Type 0} (a t u : A → Bool) (xs : List A) → Each (λ x. a x ≡ false → t x ≡ u x) xs → filter (λ x. not (t x)) (filter (λ x. not (a x)) xs) ≡ filter (λ x. not (a x || u x)) xs
 unfolding Each

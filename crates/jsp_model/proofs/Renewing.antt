@@ -1,6 +1,6 @@
 -- A batch of renewals: what becomes of each lease doesn't hang on the renewals before it.
 use Rattle.std.proofs.Common.{◌≡◌, ℕ, ℤ, ◌+◌, Bool, true, false, List, [], ◌∷◌, map, Option, Some, None, cond, refl, ap, ◌∙◌}
-use Rattle.std.specs.Prelude.{◌||◌, ◌==◌, fold, find, is_some, is_none}
+use Rattle.std.specs.Prelude.{◌||◌, ◌==◌, find, is_some, is_none}
 use Rattle.std.specs.List.{list_any, scan}
 use Rattle.std.specs.Option.{option_map_or}
 use Rattle.jsp_types.specs.Tests.{first_that}
@@ -96,11 +96,6 @@ alike_item st l = go (is_some (first_that (renew_tests st l.0 l.1)))
     go true = alike_itself st
     go false = alike_renewed st l.0 l.1
 
--- renewing changes no number and no vote
-pub renewed_alike : (st : State) (earlier : List (ℤ × ℤ)) → NamesAlike (fold renew_one st earlier) st
-renewed_alike st [] = alike_itself st
-renewed_alike st (l ∷ earlier) = alike_then (fold renew_one (renew_one st l) earlier) (renew_one st l) st (renewed_alike (renew_one st l) earlier) (alike_item st l)
-
 -- ---- answers
 
 answered_alike : (now was : State) (l : ℤ × ℤ) → NamesAlike now was → renew_answer now l ≡ renew_answer was l
@@ -110,11 +105,7 @@ answered_alike now was l h =
     ap (λ r. record { lease = l.0; outcome = answer r (is_voting now (named l.0)) }) (h.named (named l.0))
     ∙ ap (λ b. record { lease = l.0; outcome = answer (rank_of was (named l.0)) b }) (h.voting (named l.0))
 
--- a lease is answered alike, whatever was renewed before
-pub renew_answer_alike : (st : State) (earlier : List (ℤ × ℤ)) (l : ℤ × ℤ) → renew_answer (fold renew_one st earlier) l ≡ renew_answer st l
-renew_answer_alike st earlier l = answered_alike (fold renew_one st earlier) st l (renewed_alike st earlier)
-
--- so a batch is answered without renewing any
+-- a batch is answered without renewing any
 pub renew_answers : (st : State) (leases : List (ℤ × ℤ)) → scan renew_one renew_answer st leases ≡ map (renew_answer st) leases
 renew_answers st leases = from st (alike_itself st) leases
   where

@@ -1,5 +1,5 @@
 -- Registrations that are owed an event stay named at their spaces.
-use Rattle.std.proofs.Common.{◌≡◌, ◌≢◌, ℕ, suc, ◌-◌, ◌<◌, take, drop, Bool, true, false, not, cond, eqb, ◌&&◌, List, [], ◌∷◌, ◌++◌, length, map, Option, Some, None, refl, ap, sym, ◌∙◌, subst, arith}
+use Rattle.std.proofs.Common.{◌≡◌, ◌≢◌, ℕ, suc, ◌-◌, ◌<◌, take, drop, Bool, true, false, not, cond, eqb, ◌&&◌, List, [], ◌∷◌, length, map, Option, Some, None, refl, ap, sym, ◌∙◌, subst, arith}
 use Rattle.std.specs.Prelude.{filter, find, nat_eq, nat_lt, is_none, ◌==◌, ◌||◌}
 use Rattle.std.specs.List.{AllByRecursion, list_all}
 use Rattle.std.specs.Option.{option_map_or}
@@ -16,7 +16,6 @@ use Rattle.jsp_table.specs.Finding.{numbered, is_hit, AreNumbered, AreNamed as A
 use Rattle.jsp_table.proofs.Finding.{each, both}
 use Rattle.jsp_keyed.specs.Kept.{Keeps, KeepsOthers}
 use Rattle.jsp_keyed.specs.Changing.{where_passed}
-use Rattle.jsp_keyed.proofs.Named.{All-append}
 use Rattle.jsp_keyed.proofs.Walking.{and_both, eqb_eq, only_one}
 use Rattle.jsp_notify.specs.Owing.{is_news, owed_one, owed_less}
 use Rattle.jsp_notify.specs.Registered.{told_at_most, telling, registration_ending}
@@ -35,9 +34,6 @@ owed_at space r = r.space == space && is_owed r
 module _ {S : Type 0} where
   pub still_named : (old new : HashMap ℕ (List ℕ) S) (rs : List Registration) → Keeps old new → AreNamed old rs → AreNamed new rs
   still_named old new rs keeps h = each (IsNamed old) (IsNamed new) rs h (λ r g owed. keeps r.space r.number (g owed))
-
-  pub one_more : (hints : HashMap ℕ (List ℕ) S) (rs : List Registration) (r : Registration) → AreNamed hints rs → IsNamed hints r → AreNamed hints (rs ++ r ∷ [])
-  one_more hints rs r h g = All-append (IsNamed hints) rs (r ∷ []) h (g, tt)
 
   pub one_less : (old new : HashMap ℕ (List ℕ) S) (n : ℕ) (rs : List Registration) → KeepsOthers n old new → AreNamed old rs → AreNamed new (filter (λ r. not (eqb (number r) n)) rs)
   one_less old new n [] keeps h = tt

@@ -1,13 +1,12 @@
 -- What registrations are owed, and what is taken back.
-use Rattle.std.proofs.Common.{◌≡◌, ℕ, ◌+◌, ◌-◌, ◌<◌, Bool, true, false, cond, List, [], ◌∷◌, ◌++◌, length, take, get_or, map, Option, refl, ap, sym, ◌∙◌, arith, append_assoc, length-append}
+use Rattle.std.proofs.Common.{◌≡◌, ℕ, ◌+◌, ◌-◌, ◌<◌, Bool, List, [], ◌∷◌, ◌++◌, length, take, get_or, map, Option, refl, ap, sym, ◌∙◌, arith, append_assoc, length-append}
 use Rattle.std.specs.Prelude.{filter}
 use Rattle.std.proofs.lemmas.List.{take_at, take_all, take_more, take-take, length-take-le, append-nil, map-append, length-map, map-id}
 use Rattle.std.proofs.lemmas.List.Elements.{filter-append}
-use Rattle.jsp_keyed.specs.Changing.{IsUndone, where_passed}
 use Rattle.jsp_types.specs.declared.class.Class.{Class}
 use Rattle.jsp_model.specs.declared.state.Row.{Row}
 use Rattle.jsp_model.specs.declared.state.Registration.{Registration}
-use Rattle.jsp_notify.specs.Owing.{is_news, numbers_of_news, owed, forgiven, owed_one, owed_less}
+use Rattle.jsp_notify.specs.Owing.{is_news, numbers_of_news, owed, forgiven}
 
 pub map_twice : {X : Type 0} (f g h : X → X) → ((x : X) → f (g x) ≡ h x) → (xs : List X) → map f (map g xs) ≡ map h xs
 map_twice f g h same [] = refl
@@ -78,23 +77,3 @@ none_forgiven classes caller (r ∷ rs) = same_lists (ap (λ (w : List ℕ). rec
 module _ (classes : List Class) (caller : Option ℕ) (row : Row) where
   abbrev pub hears : Registration → Bool
   hears r = is_news classes caller r row
-
-  pub one_owed : (rs : List Registration) → map (where_passed hears (owed_one row.number)) rs ≡ map (owed classes caller (row ∷ [])) rs
-  one_owed [] = refl
-  one_owed (r ∷ rs) = same_lists (at (hears r)) (one_owed rs) where
-    at : (b : Bool) → cond b (owed_one row.number r) r ≡ record r { owed = r.owed ++ map (λ (w : Row). w.number) (cond b (row ∷ []) []) }
-    at true = refl
-    at false = ap (λ (w : List ℕ). record r { owed = w }) (sym (append-nil r.owed))
-
-  pub one_forgiven : (rs : List Registration) → map (where_passed hears owed_less) rs ≡ map (forgiven classes caller (row ∷ [])) rs
-  one_forgiven [] = refl
-  one_forgiven (r ∷ rs) = same_lists (at (hears r)) (one_forgiven rs) where
-    at : (b : Bool) → cond b (owed_less r) r ≡ record r { owed = take (length r.owed - length (cond b (row ∷ []) [])) r.owed }
-    at true = refl
-    at false = ap (λ (w : List ℕ). record r { owed = w }) (sym (take_all (length r.owed - 0) r.owed (omega arith)))
-
-  pub is_undone : IsUndone hears (owed_one row.number) owed_less
-  is_undone = record {
-    passes = λ r. refl;
-    back = λ r. ap (λ (w : List ℕ). record r { owed = w }) (take_at r.owed (row.number ∷ []) (length (r.owed ++ row.number ∷ []) - 1) (omega (arith, length-append r.owed (row.number ∷ []))));
-  }

@@ -9,7 +9,7 @@ use Rattle.jsp_model.specs.declared.step.Step.TheVariants as step
 use Rattle.jsp_model.specs.declared.house.Input.{Input}
 use Rattle.jsp_model.specs.declared.house.Input.TheVariants as input
 use Rattle.jsp_model.specs.declared.house.Stopped.{Stopped}
-use Rattle.jsp_model.specs.House.{is_unasked, bare, own_of, step_of, accepts, was_done, acted, Acts}
+use Rattle.jsp_model.specs.House.{is_unasked, bare, own_of, step_of, Acts}
 use Rattle.jsp_quiet.specs.Steady.{IsSteady}
 use Rattle.jsp_quiet.specs.Quieting.{decides}
 use Rattle.jsp_quiet.proofs.Steady.{steady_run}
@@ -47,13 +47,6 @@ asked_undecided (input.Open s) = refl
 asked_undecided (input.Clock t) = refl
 asked_undecided (input.Ask s asked) = refl
 asked_undecided (input.Fault s id refusal) = refl
-
-acted_undecided : (st : State) (x : Input) (result : Result Unit Stopped) → list_all (λ s. not (decides s)) (acted st x result) ≡ true
-acted_undecided st x result = go (accepts st x && was_done result)
-  where
-    go : (b : Bool) → list_all (λ s. not (decides s)) (cond b (step_of x ∷ []) []) ≡ true
-    go true = rw (asked_undecided x) refl
-    go false = refl
 
 pub acts_steady : (old new : State) (owed left : List ℕ) (before after : List Step) (x : Input) (result : Result Unit Stopped) → IsSteady old → Acts old new owed left before after x result → IsSteady new
 acts_steady old new owed left before after x result h a = subst IsSteady a.makes.view (steady_run old a.steps a.makes.run h)

@@ -1,6 +1,6 @@
 -- Choosing the least of the rows that a request may be given.
-use Rattle.std.proofs.Common.{◌≡◌, ℕ, ◌+◌, ◌<◌, ◌≤◌, List, [], ◌∷◌, ◌++◌, length, map, take, drop, get_or, ap, sym, ◌∙◌}
-use Rattle.std.proofs.lemmas.List.{take_more, take_all, take-append-le, take-append-drop, map-append}
+use Rattle.std.proofs.Common.{◌≡◌, ℕ, ◌≤◌, List, ◌++◌, length, map, take, drop, ap, sym, ◌∙◌}
+use Rattle.std.proofs.lemmas.List.{take_all, take-append-le, take-append-drop, map-append}
 use Rattle.std.proofs.lemmas.List.Elements.{filter-append}
 use Rattle.jsp_types.specs.declared.class.Class.{Class}
 use Rattle.jsp_model.specs.declared.state.Row.{Row}
@@ -9,11 +9,6 @@ use Rattle.jsp_sight.specs.Rows.{offered, offered_among}
 
 among-append : (classes : List Class) (b : Blocked) (xs ys : List Row) → offered_among classes b (xs ++ ys) ≡ offered_among classes b xs ++ offered_among classes b ys
 among-append classes b xs ys = ap (map (λ (r : Row). r.number)) (filter-append (offered classes b) xs ys) ∙ map-append _ _ _
-
--- one row more was looked at
-pub among_more : (classes : List Class) (b : Blocked) (rows : List Row) (i : ℕ) (d : Row) (ns new : List ℕ) → i < length rows → ns ≡ offered_among classes b (take i rows) → new ≡ ns ++ offered_among classes b (get_or rows i d ∷ []) → new ≡ offered_among classes b (take (i + 1) rows)
-among_more classes b rows i d ns new lt so more =
-    more ∙ (ap (λ w. w ++ offered_among classes b (get_or rows i d ∷ [])) so ∙ (sym (among-append classes b (take i rows) (get_or rows i d ∷ [])) ∙ ap (offered_among classes b) (sym (take_more rows i d lt))))
 
 -- as many as are asked for were found among the first rows
 pub chosen_early : (classes : List Class) (b : Blocked) (rows : List Row) (i most : ℕ) (ns : List ℕ) → most ≤ length ns → length ns ≤ most → ns ≡ offered_among classes b (take i rows) → ns ≡ take most (offered_among classes b rows)

@@ -1,5 +1,5 @@
 -- Rows that pass a test are no more than the rows that pass a weaker one.
-use Rattle.std.proofs.Common.{◌≡◌, ◌≤◌, Bool, true, false, cond, List, [], ◌∷◌, length, arith, refl}
+use Rattle.std.proofs.Common.{◌≡◌, ◌≤◌, Bool, true, false, List, [], ◌∷◌, length, arith, refl}
 use Rattle.std.specs.Prelude.{filter}
 
 at : {X : Type 0} (p q : X → Bool) (x : X) (xs : List X) (b c : Bool) → p x ≡ b → q x ≡ c → (b ≡ true → c ≡ true) → length (filter p xs) ≤ length (filter q xs) → length (filter p (x ∷ xs)) ≤ length (filter q (x ∷ xs))
@@ -11,10 +11,3 @@ at p q x xs false false is also weaker rest = rw (is, also) rest
 pub fewer : {X : Type 0} (p q : X → Bool) → ((x : X) → p x ≡ true → q x ≡ true) → (xs : List X) → length (filter p xs) ≤ length (filter q xs)
 fewer p q weaker [] = omega arith
 fewer p q weaker (x ∷ xs) = at p q x xs (p x) (q x) refl refl (weaker x) (fewer p q weaker xs)
-
-pub no_more : {X : Type 0} (p : X → Bool) (xs : List X) → length (filter p xs) ≤ length xs
-no_more p [] = omega arith
-no_more p (x ∷ xs) = one (p x) (no_more p xs) where
-  one : (b : Bool) → length (filter p xs) ≤ length xs → length (cond b (x ∷ filter p xs) (filter p xs)) ≤ length (x ∷ xs)
-  one true h = omega arith
-  one false h = omega arith

@@ -72,9 +72,6 @@ next_in (x ∷ xs) n = rw (same n x) (at (nat_lt n x) (next_in xs n)) where
 
 -- ---- what it leaves out
 
-eqb_eq : (a b : ℕ) → eqb a b ≡ true → a ≡ b
-eqb_eq a b h = grind (arith, nat_tests)
-
 -- one below the first of rising numbers isn't there
 below_all : (xs : List ℕ) (m : ℕ) → ((k : ℕ) → k < length xs → m < slice_index xs k) → contains xs m ≡ false
 below_all [] m h = refl

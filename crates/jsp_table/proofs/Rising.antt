@@ -17,11 +17,6 @@ pub or_cases : (a b : Bool) → (a || b) ≡ true → (a ≡ true) ⊎ (b ≡ tr
 or_cases true b e = inl refl
 or_cases false b e = inr e
 
-pub contains_new : (xs : List ℕ) (i n : ℕ) → contains (insert xs i n) n ≡ true
-contains_new xs zero n = rw (eq-eqb n n refl) refl
-contains_new [] (suc i) n = rw (eq-eqb n n refl) refl
-contains_new (x ∷ xs) (suc i) n = rw (contains_new xs i n) (or_true (eqb x n))
-
 pub contains_more : (xs : List ℕ) (i n m : ℕ) → contains xs m ≡ true → contains (insert xs i n) m ≡ true
 contains_more xs zero n m h = rw h (or_true (eqb n m))
 contains_more [] (suc i) n m h = absurd (cc)

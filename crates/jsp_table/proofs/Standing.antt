@@ -1,5 +1,5 @@
 -- What becomes of the things when one place is emptied, filled or added.
-use Rattle.std.proofs.Common.{◌≡◌, ◌≢◌, ℕ, zero, suc, ◌+◌, ◌-◌, ◌<◌, ◌≤◌, Bool, true, false, not, cond, eqb, List, [], ◌∷◌, ◌++◌, length, set, take, get_or, Option, Some, None, Ok, Err, inl, inr, ◌⊎◌, refl, ap, sym, ◌∙◌, subst, arith, length-append, append_assoc}
+use Rattle.std.proofs.Common.{◌≡◌, ◌≢◌, ℕ, zero, suc, ◌+◌, ◌-◌, ◌<◌, ◌≤◌, Bool, true, false, not, eqb, List, [], ◌∷◌, ◌++◌, length, set, take, get_or, Option, Some, None, Ok, Err, inl, inr, ◌⊎◌, refl, ap, sym, ◌∙◌, subst, arith, length-append, append_assoc}
 use Rattle.std.specs.Prelude.{map, filter, find, slice_index, is_some}
 use Rattle.std.specs.List.{AllByRecursion}
 use Rattle.std.proofs.lemmas.Bool.{cases_eq, cases_lt, eq-eqb, ne_eqb, cases_order}
@@ -65,18 +65,6 @@ module _ {T : Type 0} (p : T → Bool) where
   emptied (Some i ∷ places) zero h = rw (at_first i places h) (sym (none_left places (none_after (Some i) places h)))
   emptied (Some i ∷ places) (suc k) h = rw (not_first i places k h) (ap (λ w. i ∷ w) (emptied places k (after (Some i) places k h)))
 
-  pub replaced : (places : List (Option T)) (k : ℕ) (thing new : T) → place_at places k ≡ Some thing → Picks places k
-      → living (set places k (Some new)) ≡ map (λ i. cond (p i) new i) (living places)
-  replaced [] k thing new is h = absurd (cc)
-  replaced (None ∷ places) zero thing new is h = absurd (cc)
-  replaced (None ∷ places) (suc k) thing new is h = replaced places k thing new is (after None places k h)
-  replaced (Some i ∷ places) zero thing new is h = rw (at_first i places h) (ap (λ w. new ∷ w) (sym (none_replaced places (none_after (Some i) places h)))) where
-    none_replaced : (places : List (Option T)) → PicksNone places → map (λ i. cond (p i) new i) (living places) ≡ living places
-    none_replaced [] h = refl
-    none_replaced (None ∷ places) h = none_replaced places (after_none None places h)
-    none_replaced (Some i ∷ places) h = rw (h zero i refl) (ap (λ w. i ∷ w) (none_replaced places (after_none (Some i) places h)))
-  replaced (Some i ∷ places) (suc k) thing new is h = rw (not_first i places k h) (ap (λ w. i ∷ w) (replaced places k thing new is (after (Some i) places k h)))
-
 module _ {T : Type 0} where
   pub living_append : (xs ys : List (Option T)) → living (xs ++ ys) ≡ living xs ++ living ys
   living_append [] ys = refl
@@ -113,15 +101,6 @@ module _ {T : Type 0} where
   living_all P [] h = tt
   living_all P (None ∷ places) h = living_all P places (λ j thing is. h (suc j) thing is)
   living_all P (Some i ∷ places) h = (h zero i refl, living_all P places (λ j thing is. h (suc j) thing is))
-
-  pub all_living : (P : T → Type 0) (places : List (Option T)) → AllByRecursion P (living places) → (k : ℕ) (thing : T) → place_at places k ≡ Some thing → P thing
-  all_living P [] h k thing is = absurd (cc)
-  all_living P (None ∷ places) h zero thing is = absurd (cc)
-  all_living P (None ∷ places) h (suc k) thing is = all_living P places h k thing is
-  all_living P (Some i ∷ places) h zero thing is = let e : i ≡ thing = some_same is in subst_it e h.0 where
-    subst_it : {a b : T} → a ≡ b → P a → P b
-    subst_it e h = rw (← e) h
-  all_living P (Some i ∷ places) h (suc k) thing is = all_living P places h.1 k thing is
 
 at_left : (xs : List ℕ) (n k : ℕ) → k < length xs → slice_index (xs ++ n ∷ []) k ≡ slice_index xs k
 at_left [] n k lt = absurd (omega arith)

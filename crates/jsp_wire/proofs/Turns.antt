@@ -31,10 +31,6 @@ pub one_more : (ts : List Tree) (t : Tree) (r : Option (Items × List Token)) �
 one_more ts t None = refl
 one_more ts t (Some p) = ap (λ is. Some (is, p.1)) (items_push ts t p.0)
 
-pub none_yet : (r : Option (Items × List Token)) → r ≡ parse_map (items_before []) r
-none_yet None = refl
-none_yet (Some p) = refl
-
 -- ---- the first token of a value
 
 -- what reading the value gives
