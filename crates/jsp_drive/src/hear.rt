@@ -3,14 +3,13 @@ ghost use Rattle.std.specs.Prelude.{◌≡◌, ℕ, IfOk, IsTrue};
 ghost use Rattle.jsp_model.specs.declared.state.State.{State};
 ghost use Rattle.jsp_model.specs.Lookup.{is_open};
 ghost use Rattle.jsp_model.specs.House.{is_input, step_of, accepts};
-ghost use Rattle.jsp_wire.specs.Reading.{Answers, reading};
 ghost use Rattle.jsp_drive.specs.Versions.{version_asked, version_after};
 ghost use Rattle.jsp_drive.specs.Line.{IsHeardAs, input_of, is_line_input, version_by};
 
 use jsp_model::Input;
 use jsp_reply::Refusal;
 use jsp_types::NoMemory;
-use jsp_wire::{Ask, Asked, Scratch, Version, WireFault, read_ask_in, read_ask_with};
+use jsp_wire::{Ask, Asked, Scratch, Version, WireFault, read_ask_with};
 use std::alloc::Global;
 
 /// What a session asks, without the session's number.
@@ -67,31 +66,16 @@ pub(crate) fn hear(
     alloc: Global,
     version: Version,
     payload: &[u8],
-    scratch: Option<&mut Scratch>,
+    scratch: &mut Scratch,
 ) -> Result<LineInput, NoMemory>
     ensures heard { IfOk result (IsHeardAs version payload.now) }
     ensures behind { IfOk result (λ x. version_by version x ≡ version_after version payload.now) }
     ensures input { IfOk result (λ x. IsTrue (is_line_input x)) }
 {
-    match ask_of(alloc, version, payload, scratch) {
+    match read_ask_with(alloc, version, payload, scratch) {
         Ok(asked) => Ok(LineInput::Ask(asked)),
         Err(WireFault::BadJson) => Ok(LineInput::Fault(None, Refusal::BadJson)),
         Err(WireFault::BadRequest { id }) => Ok(LineInput::Fault(id, Refusal::BadRequest)),
         Err(WireFault::NoMemory) => Err(NoMemory),
-    }
-}
-
-/// The request that a payload is, read in a scratch space where there is one.
-fn ask_of(
-    alloc: Global,
-    version: Version,
-    payload: &[u8],
-    scratch: Option<&mut Scratch>,
-) -> Result<Asked, WireFault>
-    ensures { Answers result (reading version payload.now) }
-{
-    match scratch {
-        None => read_ask_in(alloc, version, payload),
-        Some(scratch) => read_ask_with(alloc, version, payload, scratch),
     }
 }

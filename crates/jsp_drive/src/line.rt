@@ -120,27 +120,12 @@ impl Line {
         ensures out_of_memory { IsOutOfMemory self.old → IsErr result }
         ensures err { OnErr result (IsOutOfMemory self.new) }
     {
-        self.next_in(None)
+        let mut scratch = Scratch::new(self.alloc);
+        self.next_with(&mut scratch)
     }
 
     /// The same, in a scratch space that is kept from frame to frame.
     pub fn next_with(&mut self, scratch: &mut Scratch) -> Result<Next, NoMemory>
-        ensures ok { IfOk result (λ next. Answers self.old next self.new) }
-        // By the stream: this is what the session asks next, and all was given where it is no input.
-        ensures stream { IfOk result (λ next. FollowsStream self.old next self.new) }
-        // What is given may be acted.
-        ensures input { IfOk result (λ next. IsTrue (is_next next)) }
-        ensures no_frame { IsOpen self.old
-            → HasNoFrame (longest self.old.version) self.old.rest → IsOk result }
-        ensures closed { IsClosed self.old → IsOk result }
-        ensures out_of_memory { IsOutOfMemory self.old → IsErr result }
-        ensures err { OnErr result (IsOutOfMemory self.new) }
-    {
-        self.next_in(Some(scratch))
-    }
-
-    /// The same, in this scratch space or, where there is none, in one that is made for a frame alone.
-    fn next_in(&mut self, scratch: Option<&mut Scratch>) -> Result<Next, NoMemory>
         ensures ok { IfOk result (λ next. Answers self.old next self.new) }
         // By the stream: this is what the session asks next, and all was given where it is no input.
         ensures stream { IfOk result (λ next. FollowsStream self.old next self.new) }
@@ -183,7 +168,7 @@ fn hear_next(
     alloc: Global,
     version: Version,
     frames: &mut Unframer,
-    scratch: Option<&mut Scratch>,
+    scratch: &mut Scratch,
 ) -> Result<Next, NoMemory>
     requires { IsCutting version frames.old }
     ensures ok { IfOk result (λ next. HearsNext version frames.old next frames.new) }

@@ -2,7 +2,7 @@ use Rattle.std.proofs.Common.{◌≡◌, ap, refl}
 use Rattle.jsp_frame.specs.Unframer.{Incoming}
 use Rattle.jsp_drive.specs.Line.{Unheard, HearsFrame}
 use Rattle.jsp_drive.proofs.Giving.{follows_frame}
-use Rattle.jsp_drive.proofs.line.Line.next_in.Goals as goal
+use Rattle.jsp_drive.proofs.line.Line.next_with.Goals as goal
 
 pub returns-in-Ok-Input-clause-stream : goal.returns-in-Ok-Input-clause-stream
 returns-in-Ok-Input-clause-stream c =
