@@ -1,5 +1,5 @@
 -- After a step each row that a waiting request may be given is on offer: it was before, or the step let it go, or it is new.
-use Rattle.std.proofs.Common.{◌≡◌, refl, sym, ap, ◌∙◌, subst, ℕ, ◌≤◌, ◌<◌, ◌⊎◌, inl, inr, List, [], ◌∷◌, map, filter, length, Bool, true, false, not, cond, ◌||◌, ◌==◌, Option, Some, None, nat_lt, true≢false, eqb-true, arith}
+use Rattle.std.proofs.Common.{◌≡◌, refl, sym, ap, ◌∙◌, subst, ℕ, ◌≤◌, ◌<◌, ◌⊎◌, inl, inr, List, [], ◌∷◌, map, filter, length, Bool, true, false, not, cond, ◌||◌, ◌==◌, Option, None, nat_lt, true≢false, eqb-true, arith}
 use Rattle.std.specs.Prelude.{Result, Ok, Err, OnOk, OnErr}
 use Rattle.std.specs.List.{list_all}
 use Rattle.std.proofs.lemmas.Bool.{and_parts, and_from, ltb-true, false_from_ne_true}
@@ -14,8 +14,7 @@ use Rattle.jsp_model.specs.Changes.{close}
 use Rattle.jsp_model.specs.Steps.{next}
 use Rattle.jsp_model.specs.Limits.{IsWithinLimits, are_rising}
 use Rattle.jsp_laws.proofs.Lists.{Each, Has, each_by_all, each_has, each_itself, each_weaker, all_kept}
-use Rattle.jsp_quiet.specs.Waking.{is_marked}
-use Rattle.jsp_quiet.specs.Freeing.{unmarks, frees, frees_any, WasThere}
+use Rattle.jsp_quiet.specs.Freeing.{frees, frees_any, WasThere}
 use Rattle.jsp_quiet.proofs.Waking.{waiting_comes}
 use Rattle.jsp_quiet.proofs.Freeing.{free_comes}
 use Rattle.jsp_core.specs.Offering.{is_offered, are_offered}
@@ -66,7 +65,7 @@ needs_not st b r h e = let some = given_some st b st.rows r h e in rw some refl
 pub record Offered (st : State) (act : Step) (before within after : Option (List ℕ)) : Type 0 where
   pub old : are_offered before st ≡ true
   pub any : frees_any act ≡ true → within ≡ None
-  pub marked : (x : ℕ) → unmarks act ≡ Some x → list_all (λ r. not (is_marked x r) || is_offered within r.number) st.rows ≡ true
+  pub freed : list_all (λ r. not (frees act r) || is_offered within r.number) st.rows ≡ true
   pub keeps : (n : ℕ) → is_offered before n ≡ true → is_offered within n ≡ true
   pub new : (n : ℕ) → st.next_number ≤ n → n < (next st act).next_number → is_offered after n ≡ true
   pub stays : (n : ℕ) → is_offered within n ≡ true → is_offered after n ≡ true
@@ -78,11 +77,6 @@ or_right false b e = e
 one_that : (a b : Bool) → (not a || b) ≡ true → a ≡ true → b ≡ true
 one_that true b h e = h
 one_that false b h e = absurd (true≢false (sym e))
-
-freed : (st : State) (within : Option (List ℕ)) (o : Option ℕ) → ((x : ℕ) → o ≡ Some x → list_all (λ r. not (is_marked x r) || is_offered within r.number) st.rows ≡ true)
-    → (r : Row) → Has st.rows r → frees o r ≡ true → is_offered within r.number ≡ true
-freed st within None h r k e = absurd (true≢false (sym e))
-freed st within (Some x) h r k e = one_that (is_marked x r) (is_offered within r.number) (one_of_all (λ r. not (is_marked x r) || is_offered within r.number) st.rows r (h x refl) k) e
 
 was_offered : (st : State) (o : Option (List ℕ)) (b : Blocked) (r : Row) → are_offered o st ≡ true → Has st.blocked b → Has st.rows r → is_available st b r ≡ true → is_offered o r.number ≡ true
 was_offered st o b r h in_blocked in_rows e =
@@ -100,8 +94,8 @@ offered_after st act before within after limits o =
     some b r in_blocked in_rows e true any = o.stays r.number (subst (λ w. is_offered w r.number ≡ true) (sym (o.any any)) refl)
     some b r in_blocked in_rows e false none = came (free_comes st act b r none in_rows e)
       where
-        there : (w : WasThere st act b r) → (frees (unmarks act) w.was ≡ true) ⊎ (is_available st b w.was ≡ true) → is_offered after w.was.number ≡ true
-        there w (inl f) = o.stays w.was.number (freed st within (unmarks act) o.marked w.was w.there f)
+        there : (w : WasThere st act b r) → (frees act w.was ≡ true) ⊎ (is_available st b w.was ≡ true) → is_offered after w.was.number ≡ true
+        there w (inl f) = o.stays w.was.number (one_that (frees act w.was) (is_offered within w.was.number) (one_of_all (λ r. not (frees act r) || is_offered within r.number) st.rows w.was o.freed w.there) f)
         there w (inr a) = waited (waiting_comes st act b in_blocked)
           where
             waited : Has st.blocked b ⊎ ((st.next_number ≤ b.number) × (must_wait (next st act) b ≡ true)) → is_offered after w.was.number ≡ true
@@ -127,19 +121,22 @@ more_offered st o p more h =
     go r false k = refl
 
 pub offered_either : {T E : Type 0} (result : Result T E) (st : State) (act : Step) (new : State) (before within after : Option (List ℕ)) → IsWithinLimits new → OnOk result (new ≡ next st act) → OnErr result (new ≡ st)
-    → are_offered before st ≡ true → (frees_any act ≡ true → within ≡ None) → ((x : ℕ) → unmarks act ≡ Some x → list_all (λ r. not (is_marked x r) || is_offered within r.number) st.rows ≡ true)
+    → are_offered before st ≡ true → (frees_any act ≡ true → within ≡ None) → list_all (λ r. not (frees act r) || is_offered within r.number) st.rows ≡ true
     → ((n : ℕ) → is_offered before n ≡ true → is_offered within n ≡ true) → ((n : ℕ) → st.next_number ≤ n → n < new.next_number → is_offered after n ≡ true) → ((n : ℕ) → is_offered within n ≡ true → is_offered after n ≡ true)
     → are_offered after new ≡ true
-offered_either (Ok t) st act new before within after limits ok err old any marked keeps added stays =
+offered_either (Ok t) st act new before within after limits ok err old any freed keeps added stays =
     subst (λ w. are_offered after w ≡ true) (sym ok)
-    (offered_after st act before within after (subst IsWithinLimits ok limits) (record { old = old; any = any; marked = marked; keeps = keeps; new = λ n l h. added n l (subst (λ w. n < w.next_number) (sym ok) h); stays = stays }))
-offered_either (Err e) st act new before within after limits ok err old any marked keeps added stays =
+    (offered_after st act before within after (subst IsWithinLimits ok limits) (record { old = old; any = any; freed = freed; keeps = keeps; new = λ n l h. added n l (subst (λ w. n < w.next_number) (sym ok) h); stays = stays }))
+offered_either (Err e) st act new before within after limits ok err old any freed keeps added stays =
     subst (λ w. are_offered after w ≡ true) (sym err) (more_offered st before after (λ n h. stays n (keeps n h)) old)
 
 -- ---- rows that pass a test are put on offer
 
 pub all_opened : (t : Row → Bool) (o : Option (List ℕ)) (rows : List Row) → o ≡ None → list_all (λ r. not (t r) || is_offered o r.number) rows ≡ true
 all_opened t o rows e = all_that _ rows (λ r h. or_right (not (t r)) (is_offered o r.number) (ap (λ w. is_offered w r.number) e))
+
+pub none_freed : (t : Row → Bool) (o : Option (List ℕ)) (rows : List Row) → ((r : Row) → t r ≡ false) → list_all (λ r. not (t r) || is_offered o r.number) rows ≡ true
+none_freed t o rows none = all_that _ rows (λ r h. ap (λ b. not b || is_offered o r.number) (none r))
 
 pub all_added : (t : Row → Bool) (ns : List ℕ) (o : Option (List ℕ)) (rows : List Row) → list_all (λ r. not (t r) || contains ns r.number) rows ≡ true → ((n : ℕ) → contains ns n ≡ true → is_offered o n ≡ true)
     → list_all (λ r. not (t r) || is_offered o r.number) rows ≡ true

@@ -4,3 +4,4 @@ pub mod Places
 pub mod Replay
 pub mod Spaces
 pub mod Posting
+pub mod Unmarking

@@ -1,9 +1,11 @@
 //! What a step puts on offer to the requests that wait.
-ghost use Rattle.std.specs.Prelude.{◌≡◌, ◌||◌, ℕ, true, not, None, Some};
+ghost use Rattle.std.specs.Prelude.{◌≡◌, ◌||◌, ℕ, true, false, not, None};
 ghost use Rattle.std.specs.List.{list_all};
+ghost use Rattle.std.specs.Option.{option_map_or};
 ghost use Rattle.jsp_core.specs.Offering.{is_offered};
-ghost use Rattle.jsp_quiet.specs.Waking.{is_marked};
-ghost use Rattle.jsp_quiet.specs.Freeing.{unmarks, ask_unmarks, frees_any as lets_any_go, ask_frees_any};
+ghost use Rattle.jsp_model.specs.declared.state.Row.{Row};
+ghost use Rattle.jsp_quiet.specs.Freeing.{frees, ask_frees, frees_any as lets_any_go, ask_frees_any};
+ghost use Rattle.jsp_audit.specs.Unmarking.{is_unmarked};
 
 use jsp_core::{Core, Offers};
 use jsp_model::Step;
@@ -11,26 +13,37 @@ use jsp_state::named;
 use jsp_wire::Ask;
 use std::alloc::Global;
 
+/// The rows that may be let go: those that bear a mark of a transaction, in a space or, where none is
+/// named, in all.
+#[derive(Clone, Copy)]
+struct Unmarking {
+    transaction: u64,
+    space: Option<u64>,
+}
+
 /// Offers the rows that a step to come may let go: those that bear marks of the transaction whose
 /// marks it takes away. Where it can't be said which these are, any row is on offer.
 pub(crate) fn offer_let_go(alloc: Global, state: &Core, offers: &mut Offers, step: &Step)
     ensures any { lets_any_go step.now ≡ true → offers.new ≡ None }
-    ensures marked { (x : ℕ) → unmarks step.now ≡ Some x → list_all (λ r. not (is_marked x r) || is_offered offers.new r.number) state.now.rows ≡ true }
+    ensures freed { list_all (λ r. not (frees step.now r) || is_offered offers.new r.number) state.now.rows ≡ true }
     ensures keeps { (n : ℕ) → is_offered offers.old n ≡ true → is_offered offers.new n ≡ true }
 {
     if frees_any(step) {
         offers.open();
-    } else if let Some(x) = unmarked_by(step) {
-        offer_held(alloc, state, offers, x);
+    } else if let Some(unmarking) = unmarked_by(step) {
+        offer_held(alloc, state, offers, unmarking);
     }
 }
 
-/// Offers the rows that the transaction wrote, took or read.
-fn offer_held(alloc: Global, state: &Core, offers: &mut Offers, x: u64)
-    ensures marked { list_all (λ r. not (is_marked x r) || is_offered offers.new r.number) state.now.rows ≡ true }
+/// Offers the rows that may be let go.
+fn offer_held(alloc: Global, state: &Core, offers: &mut Offers, unmarking: Unmarking)
+    ensures held { list_all (λ r. not (is_unmarked unmarking r) || is_offered offers.new r.number) state.now.rows ≡ true }
     ensures keeps { (n : ℕ) → is_offered offers.old n ≡ true → is_offered offers.new n ≡ true }
 {
-    match state.rows.held_by(alloc, x) {
+    match state
+        .rows
+        .held_by(alloc, unmarking.transaction, unmarking.space)
+    {
         Ok(numbers) => offers.add_all(numbers.as_slice()),
         Err(_) => offers.open(),
     }
@@ -52,25 +65,38 @@ fn asks_to_free_any(ask: &Ask) -> bool
     matches!(ask, Ask::Declare(_) | Ask::CancelAll { .. })
 }
 
-/// The transaction whose marks on rows a step may take away.
-fn unmarked_by(step: &Step) -> Option<u64>
-    ensures { result ≡ unmarks step.now }
+/// The rows that a step may let go, if it may let some go. A vote is about those of its own space.
+fn unmarked_by(step: &Step) -> Option<Unmarking>
+    ensures { (r : Row) → frees step.now r ≡ option_map_or (λ u. is_unmarked u r) result false }
 {
     match step {
         Step::Ask { asked, .. } => unmarked_by_request(asked.ask()),
-        Step::Due { item } => Some(item.number),
-        Step::Vote { transaction, .. } => Some(*transaction),
-        Step::Decide { transaction, .. } => Some(*transaction),
+        Step::Due { item } => Some(unmarked_everywhere(item.number)),
+        Step::Vote { transaction, space } => Some(Unmarking {
+            transaction: *transaction,
+            space: Some(*space),
+        }),
+        Step::Decide { transaction, .. } => Some(unmarked_everywhere(*transaction)),
         _ => None,
     }
 }
 
-fn unmarked_by_request(ask: &Ask) -> Option<u64>
-    ensures { result ≡ ask_unmarks ask.now }
+fn unmarked_by_request(ask: &Ask) -> Option<Unmarking>
+    ensures { (r : Row) → ask_frees ask.now r ≡ option_map_or (λ u. is_unmarked u r) result false }
 {
     match ask {
-        Ask::Cancel { lease } => Some(named(*lease)),
-        Ask::Abort { txn } => Some(named(*txn)),
+        Ask::Cancel { lease } => Some(unmarked_everywhere(named(*lease))),
+        Ask::Abort { txn } => Some(unmarked_everywhere(named(*txn))),
         _ => None,
+    }
+}
+
+fn unmarked_everywhere(transaction: u64) -> Unmarking
+    ensures transaction { result.transaction ≡ transaction }
+    ensures space { result.space ≡ None }
+{
+    Unmarking {
+        transaction,
+        space: None,
     }
 }

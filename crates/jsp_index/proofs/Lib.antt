@@ -5,6 +5,7 @@ pub mod Walks
 pub mod Single
 pub mod Revisions
 pub mod Holders
+pub mod Listed
 pub mod Spaces
 pub mod Beside
 pub mod Heads

@@ -16,6 +16,14 @@ use Rattle.jsp_index.specs.Changing.{revised_by, HasSameKeys}
 use Rattle.jsp_index.proofs.Covering.{eqb_eq}
 use Rattle.jsp_keyed.proofs.Walking.{only_one}
 
+-- two revisions, one after the other
+pub compose : {T : Type 0} (g h r : T → Option T) (xs : List T) → ((x : T) → option_and_then h (g x) ≡ r x) → filter_map h (filter_map g xs) ≡ filter_map r xs
+compose g h r [] e = refl
+compose {T = T} g h r (x ∷ xs) e = at (g x) (e x) (compose g h r xs e) where
+  at : (o : Option T) → option_and_then h o ≡ r x → filter_map h (filter_map g xs) ≡ filter_map r xs → filter_map h (cons_option o (filter_map g xs)) ≡ cons_option (r x) (filter_map r xs)
+  at None q rest = rw (← q) rest
+  at (Some y) q rest = rw (← q) (ap (cons_option (h y)) rest)
+
 module _ {T : Type 0} (num : T → ℕ) (f : T → Option T) where
   -- the thing of one number is revised
   abbrev pub revised_one : ℕ → T → Option T
@@ -38,13 +46,6 @@ module _ {T : Type 0} (num : T → ℕ) (f : T → Option T) (keeps : (x y : T) 
     neither : (b : Bool) → (b && false) ≡ false
     neither true = refl
     neither false = refl
-
-  compose : (g h r : T → Option T) (xs : List T) → ((x : T) → option_and_then h (g x) ≡ r x) → filter_map h (filter_map g xs) ≡ filter_map r xs
-  compose g h r [] e = refl
-  compose g h r (x ∷ xs) e = at (g x) (e x) (compose g h r xs e) where
-    at : (o : Option T) → option_and_then h o ≡ r x → filter_map h (filter_map g xs) ≡ filter_map r xs → filter_map h (cons_option o (filter_map g xs)) ≡ cons_option (r x) (filter_map r xs)
-    at None q rest = rw (← q) rest
-    at (Some y) q rest = rw (← q) (ap (cons_option (h y)) rest)
 
   pub one_more : (ns : List ℕ) (last n : ℕ) (xs : List T) → AreIncreasing ns → find (nat_lt last) ns ≡ Some n → filter_map (revised_one num f n) (filter_map (revised_to num f ns last) xs) ≡ filter_map (revised_to num f ns n) xs
   one_more ns last n xs up is = compose (revised_to num f ns last) (revised_one num f n) (revised_to num f ns n) xs (λ x. at x (contains ns (num x)) refl) where

@@ -12,3 +12,7 @@ pub record HasSameKeys (row new : Row) : Type 0 where
 -- what becomes of a row that goes or changes
 abbrev pub revised_by : (Row → Bool) → (Row → Row) → Row → Option Row
 revised_by gone changed row = if gone row then None else Some (changed row)
+
+-- what is revised once stays as it is then
+abbrev pub IsOnce : (Row → Option Row) → Type 0
+IsOnce revised = (row new : Row) → revised row ≡ Some new → revised new ≡ Some new

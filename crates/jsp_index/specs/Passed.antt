@@ -36,6 +36,10 @@ is_open Held row = is_free row
 abbrev pub may_have : Bool → Option ℕ → Row → Bool
 may_have takes x row = if takes then takeable x row else readable x row
 
+-- it may have the row, which is in the space
+abbrev pub is_had : ℕ → Bool → Option ℕ → Row → Bool
+is_had space takes x row = row.space == space && may_have takes x row
+
 -- what passes is had
 abbrev pub AreOpen : Unseen → (Row → Bool) → List Row → Type 0
 AreOpen unseen passed rows = AllByRecursion (λ row. passed row ≡ true → is_open unseen row ≡ true) rows

@@ -1,5 +1,5 @@
 //! What becomes of a row, where a transaction ends, takes or reads.
-ghost use Rattle.std.specs.Prelude.{◌≡◌, Bool, ℕ, Some};
+ghost use Rattle.std.specs.Prelude.{◌≡◌, ◌==◌, ◌&&◌, Bool, ℕ, Some, if◌then◌else◌};
 ghost use Rattle.jsp_model.specs.declared.state.Row.{Row as OfRow};
 ghost use Rattle.jsp_model.specs.Lookup.{is_caller as calls};
 ghost use Rattle.jsp_sight.specs.Rows.{released_row, settled, undone, with_reader};
@@ -84,6 +84,31 @@ impl Change<Row> for Release {
 
     fn change(&self, row: &mut Row) {
         release_row(row, self.vote, self.transaction, self.space);
+    }
+}
+
+/// A revision of the rows of one space alone.
+#[derive(Drop)]
+pub(crate) struct Local<'a, R: Revision + Change<Row>> {
+    pub(crate) space: u64,
+    pub(crate) revision: &'a R,
+}
+
+impl<'a, R: Revision + Change<Row>> Revision for Local<'a, R> {
+    ghost is_gone = { λ l r. r.space == l.space && R.is_gone l.revision.now r };
+
+    fn goes(&self, row: &Row) -> bool {
+        row.space == self.space && self.revision.goes(row)
+    }
+}
+
+impl<'a, R: Revision + Change<Row>> Change<Row> for Local<'a, R> {
+    ghost changed = { λ l r. if r.space == l.space then R.changed l.revision.now r else r };
+
+    fn change(&self, row: &mut Row) {
+        if row.space == self.space {
+            self.revision.change(row);
+        }
     }
 }
 

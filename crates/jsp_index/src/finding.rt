@@ -6,20 +6,19 @@ ghost use Rattle.jsp_lease.specs.Due.{first_item, over_by};
 ghost use Rattle.jsp_model.specs.declared.state.Row.{Row as OfRow};
 ghost use Rattle.jsp_model.specs.Lookup.{contains as has, is_caller as calls};
 ghost use Rattle.jsp_model.specs.Changes.{published};
-ghost use Rattle.jsp_table.specs.Numbers.{contains};
 ghost use Rattle.jsp_index.specs.Passed.{may_have};
 ghost use Rattle.jsp_index.specs.Finding.{is_asked};
-ghost use Rattle.jsp_sight.specs.Rows.{offered, offered_among, held, shows, row_end, entries_among};
+ghost use Rattle.jsp_sight.specs.Rows.{offered, offered_among, held, shows, row_end, entries_among, is_of, is_held};
 
 use crate::asking::{ChangedBy, InConflict, Offered, OneOf, PublishedBy, Shown};
-use crate::listing::{entries_named, rows_named};
+use crate::holding::{listed, numbers_in};
+use crate::listing::{entries_named, named_by, rows_held};
 use crate::searching::Behind;
 use crate::starts::Unseen;
 use crate::walking::{Sought, entries_found, numbers_found, walk};
 use crate::{HintedRows, NoMemory};
 use jsp_model::{Blocked, Item, MatchSet, Row};
 use jsp_sight::{is_available, is_take};
-use jsp_table::Numbers;
 use jsp_types::{Classes, Entry, Items};
 use std::alloc::Global;
 
@@ -184,7 +183,7 @@ impl HintedRows {
         let rows = self.rows.keyed();
         // Which says that no number is 0.
         let _ = rows.places();
-        let Some(numbers) = self.holders.get(&x) else {
+        let Some(numbers) = listed(&self.holders, x, space) else {
             return false;
         };
         let test = ChangedBy {
@@ -194,31 +193,26 @@ impl HintedRows {
         rows.first_named(numbers, 0, &test).is_some()
     }
 
-    /// Numbers among which are those of all rows that the transaction wrote, took or read.
-    pub fn held_by(&self, alloc: Global, x: u64) -> Result<Vec<u64>, NoMemory>
-        ensures { IfOk result (λ v. list_all (λ r. not (calls r.writer x || calls r.taker x || has r.readers x) || has v.items r.number) self.now ≡ true) }
+    /// Numbers among which are those of all rows that the transaction wrote, took or read, in a
+    /// space or, where none is named, in all.
+    pub fn held_by(&self, alloc: Global, x: u64, space: Option<u64>) -> Result<Vec<u64>, NoMemory>
+        ensures { IfOk result (λ v. list_all (λ r. not (is_of space r && is_held x r) || has v.items r.number) self.now ≡ true) }
     {
-        let Some(numbers) = self.holders.get(&x) else {
-            return Ok(Vec::new(alloc));
-        };
-        let copies = numbers.to_vec(alloc)?;
-        Ok(copies)
+        match self.holders.get(&x) {
+            None => Ok(Vec::new(alloc)),
+            Some(holdings) => numbers_in(alloc, holdings.as_slice(), space),
+        }
     }
 
     /// Copies of the rows that a commit of the transaction publishes.
     pub fn published(&self, alloc: Global, x: u64) -> Result<Vec<Row>, NoMemory>
         ensures { IfOk result (λ v. v.items ≡ published x self.now) }
     {
-        let Some(numbers) = self.holders.get(&x) else {
+        let Some(holdings) = self.holders.get(&x) else {
             return Ok(Vec::new(alloc));
         };
-        let copies = rows_named(
-            alloc,
-            self.rows.keyed(),
-            numbers,
-            &PublishedBy { transaction: x },
-        )?;
-        Ok(copies)
+        let test = PublishedBy { transaction: x };
+        rows_held(alloc, self.rows.keyed(), holdings.as_slice(), &test)
     }
 
     /// The entries of the rows of these numbers, in the order of the rows.
@@ -264,15 +258,4 @@ fn sought_in<'a>(classes: &'a Classes, set: &'a MatchSet) -> Sought<'a>
         transaction: set.transaction,
         takes: false,
     }
-}
-
-/// A list that names these numbers.
-fn named_by(alloc: Global, numbers: &[u64]) -> Result<Numbers, NoMemory>
-    ensures { IfOk result (λ named. (n : ℕ) → has numbers.now n ≡ true → contains named n ≡ true) }
-{
-    let mut named = Numbers::new(alloc);
-    'numbers: for number in numbers {
-        named.add(*number)?;
-    }
-    Ok(named)
 }

@@ -11,12 +11,11 @@ ghost use Rattle.jsp_sight.specs.Rows.{row_ending, with_reader, taken_row};
 ghost use Rattle.jsp_index.specs.Numbered.{AreNumbered};
 
 use crate::NoMemory;
-use crate::changing::{Abort, Commit, Release, Taking};
-use crate::holding::{hold_all, hold_numbers};
+use crate::changing::{Abort, Commit, Release};
+use crate::holding::{Holders, hold_all, hold_number, hold_numbers, listed};
 use crate::keyed::KeyedRows;
-use crate::revising::{remove_all, revise_all, take_all};
+use crate::revising::{remove_all, revise_all, revise_holdings, take_all};
 use jsp_model::{Row, Vote};
-use jsp_table::{Hints, add_hint};
 use std::alloc::Global;
 use std::collections::HashMap;
 use std::marker::Model;
@@ -26,8 +25,9 @@ use std::marker::Model;
 pub struct HintedRows {
     pub(crate) alloc: Global,
     pub(crate) rows: KeyedRows,
-    /// The numbers of the rows that each transaction wrote, took or read. A list may name more.
-    pub(crate) holders: Hints,
+    /// The numbers of the rows that each transaction wrote, took or read, by space. A list may name
+    /// more.
+    pub(crate) holders: Holders,
 }
 
 impl Model for HintedRows {
@@ -117,30 +117,32 @@ impl HintedRows {
     pub fn abort(&mut self, x: u64)
         ensures { self.new ≡ aborted x self.old }
     {
-        let Some(numbers) = self.holders.remove(&x) else {
+        let Some(holdings) = self.holders.remove(&x) else {
             return;
         };
-        revise_all(&mut self.rows, &numbers, &Abort { transaction: x });
+        let abort = Abort { transaction: x };
+        revise_holdings(&mut self.rows, holdings.as_slice(), &abort);
     }
 
     /// The transaction commits: the rows that it took go, and so do its marks.
     pub fn commit(&mut self, x: u64)
         ensures { self.new ≡ committed x self.old }
     {
-        let Some(numbers) = self.holders.remove(&x) else {
+        let Some(holdings) = self.holders.remove(&x) else {
             return;
         };
-        revise_all(&mut self.rows, &numbers, &Commit { transaction: x });
+        let commit = Commit { transaction: x };
+        revise_holdings(&mut self.rows, holdings.as_slice(), &commit);
     }
 
     // ---- change in place
 
-    /// Once a space has voted that nothing is changed, the transaction's read marks there go. Takes no
-    /// memory.
+    /// Once a space has voted that nothing is changed, the transaction's read marks there go. What it
+    /// holds elsewhere isn't looked at. Takes no memory.
     pub fn release(&mut self, vote: Vote, x: u64, space: u64)
         ensures { self.new ≡ released vote x space self.old }
     {
-        let Some(numbers) = self.holders.get(&x) else {
+        let Some(numbers) = listed(&self.holders, x, space) else {
             return;
         };
         revise_all(
@@ -159,7 +161,7 @@ impl HintedRows {
         ensures ok { OnOk result (self.new ≡ map (taken_row x numbers.now) self.old) }
         ensures err { OnErr result (self.new ≡ self.old) }
     {
-        hold_numbers(self.alloc, &mut self.holders, x, numbers)?;
+        hold_numbers(self.alloc, &mut self.holders, &self.rows, x, numbers)?;
         take_all(&mut self.rows, numbers, x);
         Ok(())
     }
@@ -176,7 +178,7 @@ impl HintedRows {
         ensures ok { OnOk result (self.new ≡ update (λ r. r.number == number) (with_reader x) self.old) }
         ensures err { OnErr result (self.new ≡ self.old) }
     {
-        add_hint(self.alloc, &mut self.holders, x, number)?;
+        hold_number(self.alloc, &mut self.holders, &self.rows, x, number)?;
         self.rows.read(number, x)?;
         Ok(())
     }

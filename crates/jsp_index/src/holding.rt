@@ -1,17 +1,88 @@
-//! Rows named under the transactions that wrote, took or read them.
-ghost use Rattle.std.specs.Prelude.{◌≡◌, ℕ, true, OnOk};
+//! Rows listed, by space, for the transactions that wrote, took or read them.
+ghost use Rattle.std.specs.Prelude.{◌≡◌, ℕ, true, None, position, ◌==◌, option_copied, OnOk, IfOk};
+ghost use Rattle.std.specs.List.{AllByRecursion};
+ghost use Rattle.jsp_model.specs.declared.state.Row.{Row as OfRow};
 ghost use Rattle.jsp_model.specs.Lookup.{contains as has, is_caller as calls};
-ghost use Rattle.jsp_table.specs.Numbers.{names};
-ghost use Rattle.jsp_keyed.specs.Kept.{Keeps};
-ghost use Rattle.jsp_index.specs.Holding.{IsHeld, AreHeld};
+ghost use Rattle.jsp_table.specs.Numbers.{contains};
+ghost use Rattle.jsp_sight.specs.Rows.{is_of};
+ghost use Rattle.jsp_index.specs.Holding.{listed as listed_for, listed_in as listed_among, is_in, lists, Keeps, IsHeld, AreHeld};
 
 use crate::NoMemory;
+use crate::keyed::KeyedRows;
 use jsp_model::Row;
-use jsp_table::{Hints, add_hint};
+use jsp_table::Numbers;
+use jsp_types::Items;
 use std::alloc::Global;
+use std::collections::HashMap;
 
-/// Names rows under the transactions that hold them. Nothing goes from any list, on `Err` either.
-pub(crate) fn hold_all(alloc: Global, holders: &mut Hints, rows: &[Row]) -> Result<(), NoMemory>
+/// The numbers of the rows of a space that a transaction wrote, took or read. The list may name
+/// more.
+#[derive(Drop)]
+pub(crate) struct Holding {
+    pub(crate) space: u64,
+    pub(crate) numbers: Numbers,
+}
+
+/// What each transaction holds, one list for each space.
+pub(crate) type Holders = HashMap<u64, Items<Holding>>;
+
+/// The numbers that are listed for a transaction in a space, if there are some.
+pub(crate) fn listed(holders: &Holders, x: u64, space: u64) -> Option<&Numbers>
+    ensures { option_copied result ≡ listed_for holders.now x space }
+{
+    match holders.get(&x) {
+        None => None,
+        Some(holdings) => listed_in(holdings.as_slice(), space),
+    }
+}
+
+fn listed_in(holdings: &[Holding], space: u64) -> Option<&Numbers>
+    ensures { option_copied result ≡ listed_among holdings.now space }
+{
+    match holdings.iter().find(|h| h.space == space) {
+        None => None,
+        Some(holding) => Some(&holding.numbers),
+    }
+}
+
+/// The numbers that are listed for a space or, where none is named, for all.
+pub(crate) fn numbers_in(
+    alloc: Global,
+    holdings: &[Holding],
+    space: Option<u64>,
+) -> Result<Vec<u64>, NoMemory>
+    ensures { IfOk result (λ v. (r : OfRow) → is_of space r ≡ true → is_in (listed_among holdings.now r.space) r.number ≡ true → has v.items r.number ≡ true) }
+{
+    match space {
+        None => numbers_of(alloc, holdings),
+        Some(space) => copies_of(alloc, listed_in(holdings, space)),
+    }
+}
+
+/// The numbers of a list, if there is one.
+fn copies_of(alloc: Global, numbers: Option<&Numbers>) -> Result<Vec<u64>, NoMemory>
+    ensures { IfOk result (λ v. (n : ℕ) → is_in (option_copied numbers.entry) n ≡ true → has v.items n ≡ true) }
+{
+    match numbers {
+        None => Ok(Vec::new(alloc)),
+        Some(numbers) => numbers.to_vec(alloc),
+    }
+}
+
+/// All numbers that are listed.
+pub(crate) fn numbers_of(alloc: Global, holdings: &[Holding]) -> Result<Vec<u64>, NoMemory>
+    ensures { IfOk result (λ v. (space n : ℕ) → is_in (listed_among holdings.now space) n ≡ true → has v.items n ≡ true) }
+{
+    let mut numbers = Vec::new(alloc);
+    'holdings: for holding in holdings {
+        let mut more = holding.numbers.to_vec(alloc)?;
+        numbers.append(&mut more)?;
+    }
+    Ok(numbers)
+}
+
+/// Lists rows for the transactions that hold them. Nothing goes from any list, on `Err` either.
+pub(crate) fn hold_all(alloc: Global, holders: &mut Holders, rows: &[Row]) -> Result<(), NoMemory>
     ensures ok { OnOk result (AreHeld holders.new rows.now) }
     ensures keeps { Keeps holders.old holders.new }
 {
@@ -21,48 +92,137 @@ pub(crate) fn hold_all(alloc: Global, holders: &mut Hints, rows: &[Row]) -> Resu
     Ok(())
 }
 
-/// Names a row under each transaction that holds it.
-fn hold(alloc: Global, holders: &mut Hints, row: &Row) -> Result<(), NoMemory>
+/// Lists a row for each transaction that holds it.
+fn hold(alloc: Global, holders: &mut Holders, row: &Row) -> Result<(), NoMemory>
     ensures ok { OnOk result (IsHeld holders.new row.now) }
     ensures keeps { Keeps holders.old holders.new }
 {
-    let number = row.number;
-    hold_by(alloc, holders, row.writer, number)?;
-    hold_by(alloc, holders, row.taker, number)?;
+    let (space, number) = (row.space, row.number);
+    hold_by(alloc, holders, row.writer, space, number)?;
+    hold_by(alloc, holders, row.taker, space, number)?;
     'readers: for reader in row.readers.as_slice() {
-        add_hint(alloc, holders, *reader, number)?;
+        list(alloc, holders, *reader, space, number)?;
     }
     Ok(())
 }
 
-/// Names a number under a transaction, if there is one.
+/// Lists a number for a transaction, if there is one.
 fn hold_by(
     alloc: Global,
-    holders: &mut Hints,
+    holders: &mut Holders,
     holder: Option<u64>,
+    space: u64,
     number: u64,
 ) -> Result<(), NoMemory>
-    ensures ok { OnOk result ((x : ℕ) → calls holder x ≡ true → names holders.new x number ≡ true) }
+    ensures ok { OnOk result ((x : ℕ) → calls holder x ≡ true → lists holders.new x space number ≡ true) }
     ensures keeps { Keeps holders.old holders.new }
 {
     match holder {
         None => Ok(()),
-        Some(x) => add_hint(alloc, holders, x, number),
+        Some(x) => list(alloc, holders, x, space, number),
     }
 }
 
-/// Names numbers under a transaction.
+/// Lists the rows of these numbers for a transaction. Nothing goes from any list, on `Err` either.
 pub(crate) fn hold_numbers(
     alloc: Global,
-    holders: &mut Hints,
+    holders: &mut Holders,
+    rows: &KeyedRows,
     x: u64,
     numbers: &[u64],
 ) -> Result<(), NoMemory>
-    ensures ok { OnOk result ((n : ℕ) → has numbers.now n ≡ true → names holders.new x n ≡ true) }
+    ensures ok { OnOk result (AllByRecursion (λ (r : OfRow). has numbers.now r.number ≡ true → lists holders.new x r.space r.number ≡ true) rows.now) }
     ensures keeps { Keeps holders.old holders.new }
 {
     'numbers: for number in numbers {
-        add_hint(alloc, holders, x, *number)?;
+        hold_number(alloc, holders, rows, x, *number)?;
     }
+    Ok(())
+}
+
+/// Lists the row of this number, if there is one, for a transaction. Nothing goes from any list, on
+/// `Err` either.
+pub(crate) fn hold_number(
+    alloc: Global,
+    holders: &mut Holders,
+    rows: &KeyedRows,
+    x: u64,
+    number: u64,
+) -> Result<(), NoMemory>
+    ensures ok { OnOk result (AllByRecursion (λ (r : OfRow). r.number ≡ number → lists holders.new x r.space r.number ≡ true) rows.now) }
+    ensures keeps { Keeps holders.old holders.new }
+{
+    match rows.get(number) {
+        None => Ok(()),
+        Some(row) => list(alloc, holders, x, row.space, number),
+    }
+}
+
+/// Lists a number for a transaction in a space.
+fn list(
+    alloc: Global,
+    holders: &mut Holders,
+    x: u64,
+    space: u64,
+    number: u64,
+) -> Result<(), NoMemory>
+    ensures ok { OnOk result (lists holders.new x space number ≡ true) }
+    ensures keeps { Keeps holders.old holders.new }
+{
+    if let Some(holdings) = holders.get_mut(&x) {
+        return list_in(alloc, &mut holdings.items, space, number);
+    }
+    let mut holdings = Items::new(alloc);
+    list_in(alloc, &mut holdings.items, space, number)?;
+    holders.insert(x, holdings)?;
+    Ok(())
+}
+
+/// Lists a number for a space.
+fn list_in(
+    alloc: Global,
+    holdings: &mut Vec<Holding>,
+    space: u64,
+    number: u64,
+) -> Result<(), NoMemory>
+    ensures ok { OnOk result (is_in (listed_among holdings.new.items space) number ≡ true) }
+    ensures keeps { (s n : ℕ) → is_in (listed_among holdings.old.items s) n ≡ true → is_in (listed_among holdings.new.items s) n ≡ true }
+{
+    match place_of(holdings, space) {
+        None => begin_list(alloc, holdings, space, number),
+        Some(place) => add_to(&mut holdings[place], number),
+    }
+}
+
+/// The place of a space's list.
+fn place_of(holdings: &[Holding], space: u64) -> Option<usize>
+    ensures { result ≡ position (λ h. h.space == space) holdings.now }
+{
+    holdings.iter().position(|h| h.space == space)
+}
+
+/// Adds a number to a list.
+fn add_to(holding: &mut Holding, number: u64) -> Result<(), NoMemory>
+    ensures ok { OnOk result (contains holding.new.numbers number ≡ true) }
+    ensures keeps { (n : ℕ) → contains holding.old.numbers n ≡ true → contains holding.new.numbers n ≡ true }
+    ensures space { holding.new.space ≡ holding.old.space }
+{
+    holding.numbers.add(number)
+}
+
+/// Lists the first number for a space.
+fn begin_list(
+    alloc: Global,
+    holdings: &mut Vec<Holding>,
+    space: u64,
+    number: u64,
+) -> Result<(), NoMemory>
+    requires { listed_among holdings.old.items space ≡ None }
+    ensures ok { OnOk result (is_in (listed_among holdings.new.items space) number ≡ true) }
+    ensures keeps { (s n : ℕ) → is_in (listed_among holdings.old.items s) n ≡ true → is_in (listed_among holdings.new.items s) n ≡ true }
+{
+    let mut numbers = Numbers::new(alloc);
+    numbers.add(number)?;
+    holdings.push(Holding { space, numbers })?;
     Ok(())
 }

@@ -1,20 +1,52 @@
 //! Copies of rows that a list names.
-ghost use Rattle.std.specs.Prelude.{◌≡◌, ◌<◌, ◌&&◌, ◌++◌, ◌∷◌, [], filter, map, IfOk, OnOk};
+ghost use Rattle.std.specs.Prelude.{◌≡◌, ◌<◌, ◌&&◌, ◌++◌, ◌∷◌, ℕ, true, [], filter, map, IfOk, OnOk};
 ghost use Rattle.std.specs.List.{AllByRecursion};
 ghost use Rattle.jsp_model.specs.declared.state.Row.{Row as OfRow};
 ghost use Rattle.jsp_table.specs.Numbers.{contains};
+ghost use Rattle.jsp_model.specs.Lookup.{contains as has};
 ghost use Rattle.jsp_index.specs.Finding.{is_next};
+ghost use Rattle.jsp_index.specs.Holding.{listed_in, is_in};
 
 use crate::NoMemory;
 use crate::by_number::{Rows, copy_of};
+use crate::holding::{Holding, numbers_of};
 use crate::walking::add_entry;
 use jsp_model::Row;
 use jsp_table::{Numbers, Test};
 use jsp_types::{Entry, Items};
 use std::alloc::Global;
 
+/// A list that names these numbers.
+pub(crate) fn named_by(alloc: Global, numbers: &[u64]) -> Result<Numbers, NoMemory>
+    ensures { IfOk result (λ named. (n : ℕ) → has numbers.now n ≡ true → contains named n ≡ true) }
+{
+    let mut named = Numbers::new(alloc);
+    'numbers: for number in numbers {
+        named.add(*number)?;
+    }
+    Ok(named)
+}
+
+/// Copies of the rows that pass, which are all listed, in their order.
+pub(crate) fn rows_held<P: Test<Row>>(
+    alloc: Global,
+    rows: &Rows,
+    holdings: &[Holding],
+    test: &P,
+) -> Result<Vec<Row>, NoMemory>
+    requires { AllByRecursion (λ (r : OfRow). P.is_passed test.now r ≡ true → is_in (listed_in holdings.now r.space) r.number ≡ true) rows.now }
+    ensures { IfOk result (λ v. v.items ≡ filter (P.is_passed test.now) rows.now) }
+{
+    if let [holding] = holdings {
+        return rows_named(alloc, rows, &holding.numbers, test);
+    }
+    let numbers = numbers_of(alloc, holdings)?;
+    let numbers = named_by(alloc, &numbers)?;
+    rows_named(alloc, rows, &numbers, test)
+}
+
 /// Copies of the rows that are named and pass, in their order.
-pub(crate) fn rows_named<P: Test<Row>>(
+fn rows_named<P: Test<Row>>(
     alloc: Global,
     rows: &Rows,
     numbers: &Numbers,

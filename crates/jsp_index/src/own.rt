@@ -13,11 +13,12 @@ ghost use Rattle.jsp_index.specs.declared.starts.Unseen.TheVariants.{Held, Hidde
 ghost use Rattle.jsp_index.specs.Finding.{is_next, is_asked, IsLeast};
 ghost use Rattle.jsp_index.specs.Numbered.{AreNumbered};
 ghost use Rattle.jsp_index.specs.Own.{own_numbers, is_own, IsKept};
-ghost use Rattle.jsp_index.specs.Passed.{may_have, AreOpen, AreOpenOr};
+ghost use Rattle.jsp_index.specs.Passed.{may_have, is_had, AreOpen, AreOpenOr};
 
 use crate::HintedRows;
 use crate::asking::{InSpace, Open};
 use crate::by_number::{ByNumber, Rows};
+use crate::holding::listed;
 use crate::searching::Behind;
 use crate::starts::Unseen;
 use crate::walking::Sought;
@@ -25,13 +26,14 @@ use jsp_keyed::lesser;
 use jsp_model::Row;
 use jsp_table::{Numbers, Test};
 
-/// How many rows a transaction holds at most that are looked at one by one.
+/// How many rows a transaction holds in a space at most that are looked at one by one.
 const FEW: usize = 64;
 
-/// What a transaction, or who is under none, may have: rows that aren't unseen, and its own.
+/// What a transaction, or who is under none, may have of the rows of a space: those that aren't
+/// unseen, and its own.
 #[derive(Clone, Copy)]
 pub(crate) struct Scope<'a> {
-    /// The numbers of the rows that the transaction holds, where they are few.
+    /// The numbers of the rows that the transaction holds there, where they are few.
     pub(crate) own: Option<&'a Numbers>,
     /// The same, where they are many.
     pub(crate) many: Option<&'a Numbers>,
@@ -52,7 +54,7 @@ impl HintedRows {
         ensures found { option_copied result ≡ find (is_next (P.is_passed test.now) after) self.now }
         ensures numbered { AreNumbered self.now }
     {
-        let scope = self.scope(sought.transaction, sought.takes);
+        let scope = self.scope(sought);
         let own = self.first_own(sought, &scope, after, test);
         self.first_beside(sought, &scope, own, after, test)
     }
@@ -108,8 +110,8 @@ impl HintedRows {
     ) -> Option<&'a Row>
         requires asked { (r : OfRow) → P.is_passed test.now r ≡ true → is_asked sought.now.classes.now sought.now.space sought.now.templates.now r ≡ true }
         requires had { (r : OfRow) → P.is_passed test.now r ≡ true → may_have sought.now.takes sought.now.transaction r ≡ true }
-        requires opens { AreOpenOr scope.now.unseen (own_numbers (option_copied scope.now.own)) (may_have sought.now.takes sought.now.transaction) self.now }
-        requires many { IfSome (option_copied scope.now.many) (λ own. AreOpenOr (if sought.now.takes then Held else Hidden) own (may_have sought.now.takes sought.now.transaction) self.now) }
+        requires opens { AreOpenOr scope.now.unseen (own_numbers (option_copied scope.now.own)) (is_had sought.now.space sought.now.takes sought.now.transaction) self.now }
+        requires many { IfSome (option_copied scope.now.many) (λ own. AreOpenOr (if sought.now.takes then Held else Hidden) own (is_had sought.now.space sought.now.takes sought.now.transaction) self.now) }
         requires least { IsLeast (is_next (P.is_passed test.now) after) (is_own (option_copied scope.now.own)) self.now (option_copied own) }
         ensures found { option_copied result ≡ find (is_next (P.is_passed test.now) after) self.now }
         ensures numbered { AreNumbered self.now }
@@ -144,21 +146,21 @@ impl HintedRows {
         lesser::<Row, ByNumber>(open, own)
     }
 
-    /// What a transaction, or who is under none, may take, or read.
-    pub(crate) fn scope(&self, transaction: Option<u64>, takes: bool) -> Scope<'_>
-        ensures opens { AreOpenOr result.unseen (own_numbers (option_copied result.own)) (may_have takes transaction) self.now }
-        ensures many { IfSome (option_copied result.many) (λ own. AreOpenOr (if takes then Held else Hidden) own (may_have takes transaction) self.now) }
+    /// What who searches may have of the rows of a space.
+    pub(crate) fn scope(&self, sought: &Sought) -> Scope<'_>
+        ensures opens { AreOpenOr result.unseen (own_numbers (option_copied result.own)) (is_had sought.now.space sought.now.takes sought.now.transaction) self.now }
+        ensures many { IfSome (option_copied result.many) (λ own. AreOpenOr (if sought.now.takes then Held else Hidden) own (is_had sought.now.space sought.now.takes sought.now.transaction) self.now) }
     {
-        match self.held(transaction) {
+        match self.held(sought.transaction, sought.space) {
             None => Scope {
                 own: None,
                 many: None,
-                unseen: unseen_by_strangers(takes),
+                unseen: unseen_by_strangers(sought.takes),
             },
             Some(own) if own.len() <= FEW => Scope {
                 own: Some(own),
                 many: None,
-                unseen: unseen_by_strangers(takes),
+                unseen: unseen_by_strangers(sought.takes),
             },
             Some(own) => Scope {
                 own: None,
@@ -168,15 +170,15 @@ impl HintedRows {
         }
     }
 
-    /// The numbers of the rows that a transaction holds, if it holds some. What it may have beside these
-    /// nobody holds.
-    fn held(&self, transaction: Option<u64>) -> Option<&Numbers>
-        ensures some { IfSome (option_copied result) (λ own. (takes : Bool) → AreOpenOr (if takes then Held else Hidden) own (may_have takes transaction) self.now) }
-        ensures none { IfNone result ((takes : Bool) → AreOpen (if takes then Held else Hidden) (may_have takes transaction) self.now) }
+    /// The numbers of the rows that a transaction holds in a space, if it holds some. What it may
+    /// have there beside these nobody holds.
+    fn held(&self, transaction: Option<u64>, space: u64) -> Option<&Numbers>
+        ensures some { IfSome (option_copied result) (λ own. (takes : Bool) → AreOpenOr (if takes then Held else Hidden) own (is_had space takes transaction) self.now) }
+        ensures none { IfNone result ((takes : Bool) → AreOpen (if takes then Held else Hidden) (is_had space takes transaction) self.now) }
     {
         match transaction {
             None => None,
-            Some(x) => self.holders.get(&x),
+            Some(x) => listed(&self.holders, x, space),
         }
     }
 }

@@ -11,7 +11,7 @@ ghost use Rattle.jsp_index.specs.declared.starts.Unseen.TheVariants.{Held, Hidde
 ghost use Rattle.jsp_index.specs.Finding.{is_next, is_asked};
 ghost use Rattle.jsp_index.specs.Numbered.{AreNumbered};
 ghost use Rattle.jsp_index.specs.Own.{is_within, AreWithin};
-ghost use Rattle.jsp_index.specs.Passed.{may_have, AreOpenOr};
+ghost use Rattle.jsp_index.specs.Passed.{may_have, is_had, AreOpenOr};
 
 use crate::HintedRows;
 use crate::asking::{Among, Open, Within};
@@ -42,7 +42,7 @@ impl HintedRows {
     ) -> Option<&Row>
         requires asked { (r : OfRow) → P.is_passed test.now r ≡ true → is_asked sought.now.classes.now sought.now.space sought.now.templates.now r ≡ true }
         requires had { (r : OfRow) → P.is_passed test.now r ≡ true → may_have sought.now.takes sought.now.transaction r ≡ true }
-        requires opens { AreOpenOr (if sought.now.takes then Held else Hidden) own.now (may_have sought.now.takes sought.now.transaction) self.now }
+        requires opens { AreOpenOr (if sought.now.takes then Held else Hidden) own.now (is_had sought.now.space sought.now.takes sought.now.transaction) self.now }
         ensures found { option_copied result ≡ find (is_next (P.is_passed test.now) after) self.now }
         ensures numbered { AreNumbered self.now }
     {
@@ -71,7 +71,7 @@ impl HintedRows {
     ) -> Option<&Row>
         requires asked { (r : OfRow) → P.is_passed test.now r ≡ true → is_asked sought.now.classes.now sought.now.space sought.now.templates.now r ≡ true }
         requires had { (r : OfRow) → P.is_passed test.now r ≡ true → may_have sought.now.takes sought.now.transaction r ≡ true }
-        requires opens { AreOpenOr (if sought.now.takes then Held else Hidden) own.now (may_have sought.now.takes sought.now.transaction) self.now }
+        requires opens { AreOpenOr (if sought.now.takes then Held else Hidden) own.now (is_had sought.now.space sought.now.takes sought.now.transaction) self.now }
         ensures found { option_copied result ≡ find (is_next (λ r. is_within last r.number && P.is_passed test.now r) from) self.now }
         ensures numbered { AreNumbered self.now }
     {

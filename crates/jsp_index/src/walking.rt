@@ -39,7 +39,7 @@ pub(crate) fn numbers_found<P: Test<Row>>(
 {
     let _ = rows.rows.places();
     let mut numbers = Items::new(alloc);
-    let scope = rows.scope(sought.transaction, sought.takes);
+    let scope = rows.scope(sought);
     let mut own = rows.first_own(sought, &scope, from, test);
     let mut after = from;
     'rows: for _count in 0..most {
@@ -69,7 +69,7 @@ pub(crate) fn entries_found<P: Test<Row>>(
 {
     let _ = rows.rows.places();
     let mut entries = Items::new(alloc);
-    let scope = rows.scope(sought.transaction, sought.takes);
+    let scope = rows.scope(sought);
     let mut own = rows.first_own(sought, &scope, from, test);
     let mut after = from;
     'rows: for _count in 0..most {
@@ -114,7 +114,7 @@ pub(crate) fn walk<P: Test<Row>>(
 {
     let _ = rows.rows.places();
     let mut last = None;
-    let scope = rows.scope(sought.transaction, sought.takes);
+    let scope = rows.scope(sought);
     let mut own = rows.first_own(sought, &scope, from, test);
     let mut after = from;
     'rows: for count in 0..most {

@@ -1,5 +1,5 @@
 -- Where the rows come from that a request may be given after a step.
-use Rattle.std.proofs.Common.{◌≡◌, refl, sym, ◌∙◌, subst, ℕ, ℤ, ◌+◌, ◌≤◌, ◌⊎◌, inl, inr, List, [], ◌∷◌, ◌++◌, Bool, true, false, not, cond, ◌||◌, ◌&&◌, filter, fold, Option, Some, None, is_some, ◌==◌, true≢false}
+use Rattle.std.proofs.Common.{◌≡◌, refl, sym, ◌∙◌, subst, ℕ, ℤ, ◌+◌, ◌≤◌, ◌⊎◌, inl, inr, List, [], ◌∷◌, ◌++◌, Bool, true, false, not, cond, ◌||◌, ◌&&◌, filter, fold, Option, Some, None, is_some, ◌==◌, eqb-true, true≢false}
 use Rattle.std.specs.List.{list_all}
 use Rattle.std.specs.Option.{option_map_or}
 use Rattle.std.proofs.lemmas.Bool.{and_parts, and_from}
@@ -19,16 +19,16 @@ use Rattle.jsp_lease.specs.declared.item.Rank.TheVariants as rank
 use Rattle.jsp_lease.specs.Granted.{ms_of}
 use Rattle.jsp_model.specs.declared.step.Step.{Step}
 use Rattle.jsp_model.specs.declared.step.Step.TheVariants as step
-use Rattle.jsp_model.specs.Lookup.{update, contains, named, is_caller, rank_of, joined_at, blocked_of}
+use Rattle.jsp_model.specs.Lookup.{update, contains, named, is_caller, rank_of, joined_at, joined_of, blocked_of}
 use Rattle.jsp_model.specs.Sight.{is_take, readable, is_available}
 use Rattle.jsp_model.specs.Refusals.{refusal, renew_tests}
 use Rattle.jsp_model.specs.Requests.{WriteRequest, RowRequest, one_entry, all_entries, one_row, many_rows, as_blocked, would_block, caller_of, place_of}
 use Rattle.jsp_model.specs.Changes.{owe, add_row, new_row, write, give, block, give_or_block, register, open_set, close, unread, forget, committed, published, commit, aborted, abort, is_not_changed, vote_of, cast, remove, extend, renew, renew_one, cancel, accepted}
 use Rattle.jsp_model.specs.Steps.{after_ask, is_too_long, after_grant, change, next}
-use Rattle.jsp_laws.proofs.Lists.{Each, Has, each_weaker, each_filter, each_map, each_update, each_touched, each_append, each_flat, each_has, each_itself, fold_keeps}
+use Rattle.jsp_laws.proofs.Lists.{Each, Has, each_weaker, each_filter, each_map, each_update, each_touched, each_append, each_flat, each_has, each_itself, found_has, fold_keeps}
 use Rattle.jsp_laws.proofs.Sound.{after_giving}
 use Rattle.jsp_quiet.specs.Waking.{is_marked}
-use Rattle.jsp_quiet.specs.Freeing.{unmarks, frees, ask_unmarks, ask_frees_any, frees_any, WasThere}
+use Rattle.jsp_quiet.specs.Freeing.{frees, ask_frees, ask_frees_any, frees_any, WasThere}
 use Rattle.jsp_quiet.proofs.Still.{wanted, free_for}
 use Rattle.jsp_quiet.proofs.Spaces.{joining}
 use Rattle.jsp_quiet.proofs.Placed.{choose}
@@ -37,33 +37,33 @@ use Rattle.jsp_quiet.proofs.Waking.{Added, added_all}
 
 -- ---- a row that stood before
 
-record Came (st : State) (o : Option ℕ) (r : Row) : Type 0 where
+record Came (st : State) (o : Row → Bool) (r : Row) : Type 0 where
   was : Row
   there : Has st.rows was
   number : was.number ≡ r.number
-  free : (frees o was ≡ true) ⊎ ((b : Blocked) → free_for st.classes b r ≡ true → free_for st.classes b was ≡ true)
+  free : (o was ≡ true) ⊎ ((b : Blocked) → free_for st.classes b r ≡ true → free_for st.classes b was ≡ true)
 
 -- it is new, or stood before
-abbrev Comes : State → Option ℕ → Row → Type 0
+abbrev Comes : State → (Row → Bool) → Row → Type 0
 Comes st o r = (st.next_number ≤ r.number) ⊎ Came st o r
 
 -- the classes stay, and so each row comes
-record From (st : State) (o : Option ℕ) (k : State) : Type 0 where
+record From (st : State) (o : Row → Bool) (k : State) : Type 0 where
   classes : k.classes ≡ st.classes
   rows : Each (Comes st o) k.rows
 
-stood : (st : State) (o : Option ℕ) → Each (Comes st o) st.rows
+stood : (st : State) (o : Row → Bool) → Each (Comes st o) st.rows
 stood st o = each_weaker (Has st.rows) (Comes st o) (λ r h. inr (record { was = r; there = h; number = refl; free = inr (λ b k. k) })) st.rows (each_itself st.rows)
 
-from_none : (st : State) (o : Option ℕ) → From st o st
+from_none : (st : State) (o : Row → Bool) → From st o st
 from_none st o = record { classes = refl; rows = stood st o }
 
 -- the row is as free as before, or less
-comes_as : (st : State) (o : Option ℕ) (r q : Row) → q.number ≡ r.number → ((b : Blocked) → free_for st.classes b q ≡ true → free_for st.classes b r ≡ true) → Comes st o r → Comes st o q
+comes_as : (st : State) (o : Row → Bool) (r q : Row) → q.number ≡ r.number → ((b : Blocked) → free_for st.classes b q ≡ true → free_for st.classes b r ≡ true) → Comes st o r → Comes st o q
 comes_as st o r q n f (inl l) = inl (subst (λ m. st.next_number ≤ m) (sym n) l)
 comes_as st o r q n f (inr c) = inr (record { was = c.was; there = c.there; number = c.number ∙ sym n; free = go c.free })
   where
-    go : ((frees o c.was ≡ true) ⊎ ((b : Blocked) → free_for st.classes b r ≡ true → free_for st.classes b c.was ≡ true)) → (frees o c.was ≡ true) ⊎ ((b : Blocked) → free_for st.classes b q ≡ true → free_for st.classes b c.was ≡ true)
+    go : ((o c.was ≡ true) ⊎ ((b : Blocked) → free_for st.classes b r ≡ true → free_for st.classes b c.was ≡ true)) → (o c.was ≡ true) ⊎ ((b : Blocked) → free_for st.classes b q ≡ true → free_for st.classes b c.was ≡ true)
     go (inl k) = inl k
     go (inr g) = inr (λ b k. g b (f b k))
 
@@ -88,7 +88,7 @@ all_before : (f : ℕ → Bool) (c : Bool) (x : ℕ) (xs : List ℕ) → list_al
 all_before f true x xs h = h
 all_before f false x xs h = all_front f xs (x ∷ []) h
 
-given_comes : (st : State) (o : Option ℕ) (b takes : Bool) (x : Option ℕ) (r : Row) → Comes st o r → Each (Comes st o) (after_giving b takes x r)
+given_comes : (st : State) (o : Row → Bool) (b takes : Bool) (x : Option ℕ) (r : Row) → Comes st o r → Each (Comes st o) (after_giving b takes x r)
 given_comes st o true true None r c = tt
 given_comes st o true true (Some x) r c = (comes_as st o r (record r { taker = Some x }) refl (λ b k. absurd (true≢false (sym k ∙ never (wanted st.classes b r) (is_take b.form)))) c, tt)
 given_comes st o true false None r c = (c, tt)
@@ -99,27 +99,27 @@ given_comes st o true false (Some x) r c = (
 )
 given_comes st o false takes x r c = (c, tt)
 
-from_give : (st : State) (o : Option ℕ) (k : State) (b : Blocked) (ns : List ℕ) → From st o k → From st o (give k b ns)
+from_give : (st : State) (o : Row → Bool) (k : State) (b : Blocked) (ns : List ℕ) → From st o k → From st o (give k b ns)
 from_give st o k b ns h = record { classes = h.classes; rows = each_flat (Comes st o) (Comes st o) _ (λ r c. given_comes st o (contains ns r.number) (is_take b.form) b.transaction r c) k.rows h.rows }
 
 -- ---- marks of a transaction that go
 
--- the row is new, or stood before, and is as it was unless it bore a mark
-record Kept (st : State) (x : ℕ) (r : Row) : Type 0 where
+-- the row is new, or stood before, and is as it was unless it passes the test
+record Kept (st : State) (o : Row → Bool) (r : Row) : Type 0 where
   was : Row
   there : Has st.rows was
   number : was.number ≡ r.number
-  same : (is_marked x was ≡ true) ⊎ (r ≡ was)
+  same : (o was ≡ true) ⊎ (r ≡ was)
 
-kept_all : (st : State) (x : ℕ) → Each (Kept st x) st.rows
-kept_all st x = each_weaker (Has st.rows) (Kept st x) (λ r h. record { was = r; there = h; number = refl; same = inr refl }) st.rows (each_itself st.rows)
+kept_all : (st : State) (o : Row → Bool) → Each (Kept st o) st.rows
+kept_all st o = each_weaker (Has st.rows) (Kept st o) (λ r h. record { was = r; there = h; number = refl; same = inr refl }) st.rows (each_itself st.rows)
 
-kept_marked : (st : State) (x : ℕ) (r q : Row) → q.number ≡ r.number → is_marked x r ≡ true → Kept st x r → Kept st x q
-kept_marked st x r q n m c = record { was = c.was; there = c.there; number = c.number ∙ sym n; same = inl (go c.same) }
+kept_marked : (st : State) (o : Row → Bool) (r q : Row) → q.number ≡ r.number → o r ≡ true → Kept st o r → Kept st o q
+kept_marked st o r q n m c = record { was = c.was; there = c.there; number = c.number ∙ sym n; same = inl (go c.same) }
   where
-    go : ((is_marked x c.was ≡ true) ⊎ (r ≡ c.was)) → is_marked x c.was ≡ true
+    go : ((o c.was ≡ true) ⊎ (r ≡ c.was)) → o c.was ≡ true
     go (inl k) = k
-    go (inr e) = subst (λ q. is_marked x q ≡ true) e m
+    go (inr e) = subst (λ q. o q ≡ true) e m
 
 by_first : (a b d : Bool) → a ≡ true → (a || b || d) ≡ true
 by_first true b d e = refl
@@ -135,63 +135,74 @@ by_third true b d e = refl
 by_third false true d e = refl
 by_third false false d e = e
 
-kept_unread : (st : State) (x : ℕ) (r : Row) → Kept st x r → Kept st x (unread x r)
-kept_unread st x r c = go (contains r.readers x) refl
-  where
-    go : (b : Bool) → contains r.readers x ≡ b → Kept st x (unread x r)
-    go true e = kept_marked st x r (unread x r) refl (by_third (is_caller r.writer x) (is_caller r.taker x) (contains r.readers x) e) c
-    go false e = subst (Kept st x) (sym (unread_same x r e)) c
+by_reader : (x : ℕ) (r : Row) → contains r.readers x ≡ true → is_marked x r ≡ true
+by_reader x r e = by_third (is_caller r.writer x) (is_caller r.taker x) (contains r.readers x) e
 
-kept_aborted : (st : State) (x : ℕ) → Each (Kept st x) (aborted x st.rows)
+kept_unread : (st : State) (o : Row → Bool) (x : ℕ) (r : Row) → (contains r.readers x ≡ true → o r ≡ true) → Kept st o r → Kept st o (unread x r)
+kept_unread st o x r m c = go (contains r.readers x) refl
+  where
+    go : (b : Bool) → contains r.readers x ≡ b → Kept st o (unread x r)
+    go true e = kept_marked st o r (unread x r) refl (m e) c
+    go false e = subst (Kept st o) (sym (unread_same x r e)) c
+
+kept_aborted : (st : State) (x : ℕ) → Each (Kept st (is_marked x)) (aborted x st.rows)
 kept_aborted st x =
-    let stay : Each (Kept st x) (filter (λ row. not (is_caller row.writer x)) st.rows) = each_filter (Kept st x) _ st.rows (kept_all st x) in
-    let back : Each (Kept st x) (update (λ row. is_caller row.taker x) (λ (row : Row). record row { taker = None }) (filter (λ row. not (is_caller row.writer x)) st.rows)) =
-    each_update (Kept st x) (Kept st x) (λ row. is_caller row.taker x) (λ (row : Row). record row { taker = None })
-    (λ r e c. kept_marked st x r (record r { taker = None }) refl (by_second (is_caller r.writer x) (is_caller r.taker x) (contains r.readers x) e) c) (λ r e c. c) _ stay in
-    each_map (Kept st x) (Kept st x) (unread x) (λ r c. kept_unread st x r c) _ back
+    let o : Row → Bool = is_marked x in
+    let stay : Each (Kept st o) (filter (λ row. not (is_caller row.writer x)) st.rows) = each_filter (Kept st o) _ st.rows (kept_all st o) in
+    let back : Each (Kept st o) (update (λ row. is_caller row.taker x) (λ (row : Row). record row { taker = None }) (filter (λ row. not (is_caller row.writer x)) st.rows)) =
+    each_update (Kept st o) (Kept st o) (λ row. is_caller row.taker x) (λ (row : Row). record row { taker = None })
+    (λ r e c. kept_marked st o r (record r { taker = None }) refl (by_second (is_caller r.writer x) (is_caller r.taker x) (contains r.readers x) e) c) (λ r e c. c) _ stay in
+    each_map (Kept st o) (Kept st o) (unread x) (λ r c. kept_unread st o x r (by_reader x r) c) _ back
 
-kept_committed : (st : State) (x : ℕ) → Each (Kept st x) (committed x st.rows)
+kept_committed : (st : State) (x : ℕ) → Each (Kept st (is_marked x)) (committed x st.rows)
 kept_committed st x =
-    let stay : Each (Kept st x) (filter (λ row. not (is_caller row.taker x)) st.rows) = each_filter (Kept st x) _ st.rows (kept_all st x) in
-    let out : Each (Kept st x) (update (λ row. is_caller row.writer x) (λ (row : Row). record row { writer = None }) (filter (λ row. not (is_caller row.taker x)) st.rows)) =
-    each_update (Kept st x) (Kept st x) (λ row. is_caller row.writer x) (λ (row : Row). record row { writer = None })
-    (λ r e c. kept_marked st x r (record r { writer = None }) refl (by_first (is_caller r.writer x) (is_caller r.taker x) (contains r.readers x) e) c) (λ r e c. c) _ stay in
-    each_map (Kept st x) (Kept st x) (unread x) (λ r c. kept_unread st x r c) _ out
+    let o : Row → Bool = is_marked x in
+    let stay : Each (Kept st o) (filter (λ row. not (is_caller row.taker x)) st.rows) = each_filter (Kept st o) _ st.rows (kept_all st o) in
+    let out : Each (Kept st o) (update (λ row. is_caller row.writer x) (λ (row : Row). record row { writer = None }) (filter (λ row. not (is_caller row.taker x)) st.rows)) =
+    each_update (Kept st o) (Kept st o) (λ row. is_caller row.writer x) (λ (row : Row). record row { writer = None })
+    (λ r e c. kept_marked st o r (record r { writer = None }) refl (by_first (is_caller r.writer x) (is_caller r.taker x) (contains r.readers x) e) c) (λ r e c. c) _ stay in
+    each_map (Kept st o) (Kept st o) (unread x) (λ r c. kept_unread st o x r (by_reader x r) c) _ out
 
-kept_comes : (st : State) (x : ℕ) (rows : List Row) → Each (Kept st x) rows → Each (Comes st (Some x)) rows
-kept_comes st x rows h = each_weaker (Kept st x) (Comes st (Some x)) (λ r c. inr (record { was = c.was; there = c.there; number = c.number; free = go r c.was c.same })) rows h
+kept_comes : (st : State) (o : Row → Bool) (rows : List Row) → Each (Kept st o) rows → Each (Comes st o) rows
+kept_comes st o rows h = each_weaker (Kept st o) (Comes st o) (λ r c. inr (record { was = c.was; there = c.there; number = c.number; free = go r c.was c.same })) rows h
   where
-    go : (r was : Row) → ((is_marked x was ≡ true) ⊎ (r ≡ was)) → (frees (Some x) was ≡ true) ⊎ ((b : Blocked) → free_for st.classes b r ≡ true → free_for st.classes b was ≡ true)
+    go : (r was : Row) → ((o was ≡ true) ⊎ (r ≡ was)) → (o was ≡ true) ⊎ ((b : Blocked) → free_for st.classes b r ≡ true → free_for st.classes b was ≡ true)
     go r was (inl m) = inl m
     go r was (inr e) = inr (λ b k. subst (λ q. free_for st.classes b q ≡ true) e k)
 
-from_abort : (st : State) (x : ℕ) → From st (Some x) (abort st x)
-from_abort st x = record { classes = refl; rows = kept_comes st x (aborted x st.rows) (kept_aborted st x) }
+from_abort : (st : State) (x : ℕ) → From st (is_marked x) (abort st x)
+from_abort st x = record { classes = refl; rows = kept_comes st (is_marked x) (aborted x st.rows) (kept_aborted st x) }
 
-from_commit : (st : State) (x : ℕ) → From st (Some x) (commit st x)
+from_commit : (st : State) (x : ℕ) → From st (is_marked x) (commit st x)
 from_commit st x =
-    fold_keeps (From st (Some x)) (owe None) (λ b r k. record { classes = k.classes; rows = k.rows }) (published x st.rows) (record (forget st x) { rows = committed x st.rows })
-    (record { classes = refl; rows = kept_comes st x (committed x st.rows) (kept_committed st x) })
+    fold_keeps (From st (is_marked x)) (owe None) (λ b r k. record { classes = k.classes; rows = k.rows }) (published x st.rows) (record (forget st x) { rows = committed x st.rows })
+    (record { classes = refl; rows = kept_comes st (is_marked x) (committed x st.rows) (kept_committed st x) })
 
-from_vote : (st : State) (x : ℕ) (o : Option Joined) → From st (Some x) (option_map_or (cast st x) o st)
-from_vote st x None = from_none st (Some x)
-from_vote st x (Some j) =
+-- a vote lets rows of its own space go
+from_vote : (st : State) (x space : ℕ) (o : Option Joined) → joined_at st x space ≡ o → From st (frees (step.Vote x space)) (option_map_or (cast st x) o st)
+from_vote st x space None k = from_none st (frees (step.Vote x space))
+from_vote st x space (Some j) k =
     let v = is_not_changed (vote_of st x j) in
+    let o : Row → Bool = frees (step.Vote x space) in
+    let here : j.space ≡ space = eqb-true j.space space (found_has (λ (j : Joined). j.space == space) (joined_of st x) j k).1 in
     record {
       classes = refl;
-      rows = kept_comes st x _ (each_update (Kept st x) (Kept st x) (λ row. v && row.space == j.space) (unread x) (λ r e c. kept_unread st x r c) (λ r e c. c) st.rows (kept_all st x));
+      rows = kept_comes st o _
+          (each_update (Kept st o) (Kept st o) (λ row. v && row.space == j.space) (unread x)
+          (λ r e c. kept_unread st o x r (λ m. and_from (r.space == space) (is_marked x r) (subst (λ s. (r.space == s) ≡ true) here (and_parts v (r.space == j.space) e).1) (by_reader x r m)) c)
+          (λ r e c. c) st.rows (kept_all st o));
     }
 
 -- ---- leases
 
-from_remove : (st : State) (r : Rank) (n : ℕ) → From st (Some n) (remove st r n)
-from_remove st rank.Entry n = record { classes = refl; rows = each_filter (Comes st (Some n)) _ st.rows (stood st (Some n)) }
-from_remove st rank.Registration n = record { classes = refl; rows = stood st (Some n) }
+from_remove : (st : State) (r : Rank) (n : ℕ) → From st (is_marked n) (remove st r n)
+from_remove st rank.Entry n = record { classes = refl; rows = each_filter (Comes st (is_marked n)) _ st.rows (stood st (is_marked n)) }
+from_remove st rank.Registration n = record { classes = refl; rows = stood st (is_marked n) }
 from_remove st rank.Transaction n = from_abort st n
-from_remove st rank.Blocked n = record { classes = refl; rows = stood st (Some n) }
-from_remove st rank.MatchSet n = record { classes = refl; rows = stood st (Some n) }
+from_remove st rank.Blocked n = record { classes = refl; rows = stood st (is_marked n) }
+from_remove st rank.MatchSet n = record { classes = refl; rows = stood st (is_marked n) }
 
-from_extend : (st : State) (o : Option ℕ) (k : State) (end : ℕ) (r : Rank) (n : ℕ) → From st o k → From st o (extend k end r n)
+from_extend : (st : State) (o : Row → Bool) (k : State) (end : ℕ) (r : Rank) (n : ℕ) → From st o k → From st o (extend k end r n)
 from_extend st o k end rank.Entry n h = record {
   classes = h.classes;
   rows = each_touched (Comes st o) (λ row. row.number == n) (λ (row : Row). record row { end = end }) (λ r c. comes_as st o r (record r { end = end }) refl (λ b k. k) c) k.rows h.rows;
@@ -201,36 +212,40 @@ from_extend st o k end rank.Transaction n h = record { classes = h.classes; rows
 from_extend st o k end rank.Blocked n h = h
 from_extend st o k end rank.MatchSet n h = record { classes = h.classes; rows = h.rows }
 
-from_renew : (st : State) (o : Option ℕ) (k : State) (lease ms : ℤ) → From st o k → From st o (renew k lease ms)
+from_renew : (st : State) (o : Row → Bool) (k : State) (lease ms : ℤ) → From st o k → From st o (renew k lease ms)
 from_renew st o k lease ms h = go (rank_of k (named lease))
   where
     go : (r : Option Rank) → From st o (option_map_or (λ r. extend k (k.time + ms_of ms) r (named lease)) r k)
     go None = h
     go (Some r) = from_extend st o k _ r (named lease) h
 
-from_cancel : (st : State) (lease : ℤ) → From st (Some (named lease)) (cancel st lease)
+from_cancel : (st : State) (lease : ℤ) → From st (is_marked (named lease)) (cancel st lease)
 from_cancel st lease = go (rank_of st (named lease))
   where
-    go : (r : Option Rank) → From st (Some (named lease)) (option_map_or (λ r. remove st r (named lease)) r st)
-    go None = from_none st (Some (named lease))
+    go : (r : Option Rank) → From st (is_marked (named lease)) (option_map_or (λ r. remove st r (named lease)) r st)
+    go None = from_none st (is_marked (named lease))
     go (Some r) = from_remove st r (named lease)
 
 -- ---- requests
 
-from_added : (st : State) (o : Option ℕ) (a b : State) → a.rows ≡ st.rows → a.classes ≡ st.classes → a.next_number ≡ st.next_number → Added a b → From st o b
+-- a step that lets none go
+abbrev no_row : Row → Bool
+no_row row = false
+
+from_added : (st : State) (o : Row → Bool) (a b : State) → a.rows ≡ st.rows → a.classes ≡ st.classes → a.next_number ≡ st.next_number → Added a b → From st o b
 from_added st o a b e c n k =
     let news : Each (Comes st o) k.news = each_weaker (λ (r : Row). a.next_number ≤ r.number) (Comes st o) (λ r l. inl (subst (λ m. m ≤ r.number) n l)) k.news k.numbers in
     let olds : Each (Comes st o) a.rows = subst (Each (Comes st o)) (sym e) (stood st o) in
     record { classes = k.classes ∙ c; rows = subst (Each (Comes st o)) (sym k.rows) (each_append (Comes st o) a.rows k.news olds news) }
 
-from_write : (st : State) (o : Option ℕ) (w : WriteRequest) → From st o (write st w)
+from_write : (st : State) (o : Row → Bool) (w : WriteRequest) → From st o (write st w)
 from_write st o w =
     let j = joining st (caller_of w.txn) (place_of st w.space) in
     let k : State = record st { transactions = j.ts } in
     subst (λ k. From st o (fold (λ b raw. add_row b (new_row b w raw)) k w.entries)) (sym j.is)
     (from_added st o k _ refl refl refl (added_all w w.entries k))
 
-from_seek : (st : State) (o : Option ℕ) (s id : ℕ) (x : RowRequest) (ns : List ℕ) → From st o (give_or_block st s id x ns)
+from_seek : (st : State) (o : Row → Bool) (s id : ℕ) (x : RowRequest) (ns : List ℕ) → From st o (give_or_block st s id x ns)
 from_seek st o s id x ns =
     let b = as_blocked st s id x in
     let j = joining st (caller_of x.txn) (place_of st x.space) in
@@ -239,77 +254,77 @@ from_seek st o s id x ns =
     subst (λ k. From st o (cond (would_block st s id x) (block k b) (give k b ns))) (sym j.is)
     (choose (From st o) (would_block st s id x) (block k b) (give k b ns) (record { classes = refl; rows = stood st o }) (from_give st o k b ns h))
 
-from_register : (st : State) (o : Option ℕ) (s : ℕ) (x : Notify) → From st o (register st s x)
+from_register : (st : State) (o : Row → Bool) (s : ℕ) (x : Notify) → From st o (register st s x)
 from_register st o s x =
     let j = joining st (caller_of x.txn) (place_of st x.space) in
     subst (λ (k : State). From st o (record k { registrations = (register st s x).registrations; next_number = st.next_number + 1 })) (sym j.is) (record { classes = refl; rows = stood st o })
 
-from_open_set : (st : State) (o : Option ℕ) (s : ℕ) (x : Contents) → From st o (open_set st s x)
+from_open_set : (st : State) (o : Row → Bool) (s : ℕ) (x : Contents) → From st o (open_set st s x)
 from_open_set st o s x =
     let j = joining st (caller_of x.txn) (place_of st x.space) in
     subst (λ (k : State). From st o (record k { sets = (open_set st s x).sets; next_number = st.next_number + 1 })) (sym j.is) (record { classes = refl; rows = stood st o })
 
-from_accepted : (st : State) (s id : ℕ) (ns : List ℕ) (a : Ask) → ask_frees_any a ≡ false → From st (ask_unmarks a) (accepted st s id ns a)
+from_accepted : (st : State) (s id : ℕ) (ns : List ℕ) (a : Ask) → ask_frees_any a ≡ false → From st (ask_frees a) (accepted st s id ns a)
 from_accepted st s id ns (ask.Declare d) e = absurd (cc)
-from_accepted st s id ns (ask.Write w) e = from_write st None (one_entry w)
-from_accepted st s id ns (ask.Read x) e = from_seek st None s id (one_row form.Read x) ns
-from_accepted st s id ns (ask.ReadIf x) e = from_seek st None s id (one_row form.ReadIf x) ns
-from_accepted st s id ns (ask.Take x) e = from_seek st None s id (one_row form.Take x) ns
-from_accepted st s id ns (ask.TakeIf x) e = from_seek st None s id (one_row form.TakeIf x) ns
-from_accepted st s id ns (ask.Notify x) e = from_register st None s x
-from_accepted st s id ns (ask.Renew lease ms) e = from_renew st None st lease ms (from_none st None)
+from_accepted st s id ns (ask.Write w) e = from_write st no_row (one_entry w)
+from_accepted st s id ns (ask.Read x) e = from_seek st no_row s id (one_row form.Read x) ns
+from_accepted st s id ns (ask.ReadIf x) e = from_seek st no_row s id (one_row form.ReadIf x) ns
+from_accepted st s id ns (ask.Take x) e = from_seek st no_row s id (one_row form.Take x) ns
+from_accepted st s id ns (ask.TakeIf x) e = from_seek st no_row s id (one_row form.TakeIf x) ns
+from_accepted st s id ns (ask.Notify x) e = from_register st no_row s x
+from_accepted st s id ns (ask.Renew lease ms) e = from_renew st no_row st lease ms (from_none st no_row)
 from_accepted st s id ns (ask.Cancel lease) e = from_cancel st lease
-from_accepted st s id ns (ask.RenewAll leases) e = fold_keeps (From st None) renew_one (λ b l k. choose (From st None) (is_some (first_that (renew_tests b l.0 l.1))) b (renew b l.0 l.1) k (from_renew st None b l.0 l.1 k)) leases st (from_none st None)
+from_accepted st s id ns (ask.RenewAll leases) e = fold_keeps (From st no_row) renew_one (λ b l k. choose (From st no_row) (is_some (first_that (renew_tests b l.0 l.1))) b (renew b l.0 l.1) k (from_renew st no_row b l.0 l.1 k)) leases st (from_none st no_row)
 from_accepted st s id ns (ask.CancelAll leases) e = absurd (cc)
-from_accepted st s id ns (ask.Txn lease) e = record { classes = refl; rows = stood st None }
-from_accepted st s id ns (ask.Commit x) e = record { classes = refl; rows = stood st None }
+from_accepted st s id ns (ask.Txn lease) e = record { classes = refl; rows = stood st no_row }
+from_accepted st s id ns (ask.Commit x) e = record { classes = refl; rows = stood st no_row }
 from_accepted st s id ns (ask.Abort x) e = from_abort st (named x)
-from_accepted st s id ns (ask.State x) e = from_none st None
-from_accepted st s id ns (ask.Reset space) e = record { classes = refl; rows = each_filter (Comes st None) _ st.rows (stood st None) }
-from_accepted st s id ns ask.Spaces e = from_none st None
-from_accepted st s id ns ask.Bye e = record { classes = refl; rows = stood st None }
-from_accepted st s id ns (ask.Hello v) e = record { classes = refl; rows = stood st None }
-from_accepted st s id ns (ask.WriteAll w) e = from_write st None (all_entries w)
-from_accepted st s id ns (ask.TakeMany x) e = from_seek st None s id (many_rows x) ns
-from_accepted st s id ns (ask.Contents x) e = from_open_set st None s x
-from_accepted st s id ns (ask.Next set most) e = record { classes = refl; rows = stood st None }
-from_accepted st s id ns (ask.CloseSet set) e = record { classes = refl; rows = stood st None }
+from_accepted st s id ns (ask.State x) e = from_none st no_row
+from_accepted st s id ns (ask.Reset space) e = record { classes = refl; rows = each_filter (Comes st no_row) _ st.rows (stood st no_row) }
+from_accepted st s id ns ask.Spaces e = from_none st no_row
+from_accepted st s id ns ask.Bye e = record { classes = refl; rows = stood st no_row }
+from_accepted st s id ns (ask.Hello v) e = record { classes = refl; rows = stood st no_row }
+from_accepted st s id ns (ask.WriteAll w) e = from_write st no_row (all_entries w)
+from_accepted st s id ns (ask.TakeMany x) e = from_seek st no_row s id (many_rows x) ns
+from_accepted st s id ns (ask.Contents x) e = from_open_set st no_row s x
+from_accepted st s id ns (ask.Next set most) e = record { classes = refl; rows = stood st no_row }
+from_accepted st s id ns (ask.CloseSet set) e = record { classes = refl; rows = stood st no_row }
 
-from_asked : (st : State) (s id : ℕ) (ns : List ℕ) (a : Ask) (o : Option Refusal) → ask_frees_any a ≡ false → From st (ask_unmarks a) (after_ask st s id ns a o)
+from_asked : (st : State) (s id : ℕ) (ns : List ℕ) (a : Ask) (o : Option Refusal) → ask_frees_any a ≡ false → From st (ask_frees a) (after_ask st s id ns a o)
 from_asked st s id ns a None e = from_accepted st s id ns a e
-from_asked st s id ns a (Some why) e = from_none st (ask_unmarks a)
+from_asked st s id ns a (Some why) e = from_none st (ask_frees a)
 
 -- ---- each step
 
-from_granted : (st : State) (n : ℕ) (ns : List ℕ) (o : Option Blocked) → From st None (after_grant st n ns o)
-from_granted st n ns None = from_none st None
-from_granted st n ns (Some b) = let h : From st None (give st b ns) = from_give st None st b ns (from_none st None) in record { classes = h.classes; rows = h.rows }
+from_granted : (st : State) (n : ℕ) (ns : List ℕ) (o : Option Blocked) → From st no_row (after_grant st n ns o)
+from_granted st n ns None = from_none st no_row
+from_granted st n ns (Some b) = let h : From st no_row (give st b ns) = from_give st no_row st b ns (from_none st no_row) in record { classes = h.classes; rows = h.rows }
 
-from_change : (st : State) (act : Step) → frees_any act ≡ false → From st (unmarks act) (change st act)
-from_change st (step.Open s) e = record { classes = refl; rows = stood st None }
-from_change st (step.Shut s) e = record { classes = refl; rows = stood st None }
-from_change st (step.Clock t) e = record { classes = refl; rows = stood st None }
+from_change : (st : State) (act : Step) → frees_any act ≡ false → From st (frees act) (change st act)
+from_change st (step.Open s) e = record { classes = refl; rows = stood st no_row }
+from_change st (step.Shut s) e = record { classes = refl; rows = stood st no_row }
+from_change st (step.Clock t) e = record { classes = refl; rows = stood st no_row }
 from_change st (step.Ask s a ns) e = from_asked st s a.id ns a.ask (refusal st s a.id a.ask) e
-from_change st (step.Fault s id why) e = choose (From st None) (is_too_long why) (close st s) st (record { classes = refl; rows = stood st None }) (from_none st None)
+from_change st (step.Fault s id why) e = choose (From st no_row) (is_too_long why) (close st s) st (record { classes = refl; rows = stood st no_row }) (from_none st no_row)
 from_change st (step.Grant m ns) e = from_granted st m ns (blocked_of st m)
-from_change st (step.Empty m) e = record { classes = refl; rows = stood st None }
-from_change st (step.Tell m) e = record { classes = refl; rows = stood st None }
+from_change st (step.Empty m) e = record { classes = refl; rows = stood st no_row }
+from_change st (step.Tell m) e = record { classes = refl; rows = stood st no_row }
 from_change st (step.Due item) e = from_remove st item.rank item.number
-from_change st (step.Vote x space) e = from_vote st x (joined_at st x space)
-from_change st (step.Decide x c) e = choose (From st (Some x)) c (commit st x) (abort st x) (from_commit st x) (from_abort st x)
-from_change st (step.HandOut s m) e = from_none st None
+from_change st (step.Vote x space) e = from_vote st x space (joined_at st x space) refl
+from_change st (step.Decide x c) e = choose (From st (is_marked x)) c (commit st x) (abort st x) (from_commit st x) (from_abort st x)
+from_change st (step.HandOut s m) e = from_none st no_row
 
 pub free_comes : (st : State) (act : Step) (b : Blocked) (row : Row) → frees_any act ≡ false → Has (next st act).rows row → is_available (next st act) b row ≡ true → (st.next_number ≤ row.number) ⊎ WasThere st act b row
 unfolding next
 free_comes st act b row e h a =
-    let f : From st (unmarks act) (change st act) = from_change st act e in
+    let f : From st (frees act) (change st act) = from_change st act e in
     let free : free_for st.classes b row ≡ true = subst (λ classes. free_for classes b row ≡ true) f.classes a in
-    go free (each_has (Comes st (unmarks act)) (change st act).rows row f.rows h)
+    go free (each_has (Comes st (frees act)) (change st act).rows row f.rows h)
   where
-    was : (c : Came st (unmarks act) row) → free_for st.classes b row ≡ true → ((frees (unmarks act) c.was ≡ true) ⊎ ((b : Blocked) → free_for st.classes b row ≡ true → free_for st.classes b c.was ≡ true)) → WasThere st act b row
+    was : (c : Came st (frees act) row) → free_for st.classes b row ≡ true → ((frees act c.was ≡ true) ⊎ ((b : Blocked) → free_for st.classes b row ≡ true → free_for st.classes b c.was ≡ true)) → WasThere st act b row
     was c k (inl m) = record { was = c.was; there = c.there; number = c.number; free = inl m }
     was c k (inr g) = record { was = c.was; there = c.there; number = c.number; free = inr (g b k) }
 
-    go : free_for st.classes b row ≡ true → Comes st (unmarks act) row → (st.next_number ≤ row.number) ⊎ WasThere st act b row
+    go : free_for st.classes b row ≡ true → Comes st (frees act) row → (st.next_number ≤ row.number) ⊎ WasThere st act b row
     go k (inl l) = inl l
     go k (inr c) = inr (was c k c.free)

@@ -1,6 +1,5 @@
 -- Which rows a step lets go. Only they and new rows can be given to a request that couldn't be given them before.
-use Rattle.std.specs.Prelude.{◌≡◌, ℕ, ◌⊎◌, Bool, true, false, Option, Some, None, IsTrue}
-use Rattle.std.specs.Option.{option_map_or}
+use Rattle.std.specs.Prelude.{◌≡◌, ◌⊎◌, Bool, true, false, ◌&&◌, ◌==◌, IsTrue}
 use Rattle.jsp_wire.specs.declared.ask.Ask.{Ask}
 use Rattle.jsp_wire.specs.declared.ask.Ask.TheVariants as ask
 use Rattle.jsp_model.specs.declared.state.State.{State}
@@ -13,23 +12,19 @@ use Rattle.jsp_model.specs.Sight.{is_available}
 use Rattle.jsp_laws.proofs.Lists.{Has}
 use Rattle.jsp_quiet.specs.Waking.{is_marked}
 
--- the transaction whose marks on rows the request may take away
-abbrev pub ask_unmarks : Ask → Option ℕ
-ask_unmarks (ask.Cancel lease) = Some (named lease)
-ask_unmarks (ask.Abort x) = Some (named x)
-ask_unmarks _ = None
+-- the request may take a mark from the row
+abbrev pub ask_frees : Ask → Row → Bool
+ask_frees (ask.Cancel lease) row = is_marked (named lease) row
+ask_frees (ask.Abort x) row = is_marked (named x) row
+ask_frees _ row = false
 
--- the transaction whose marks on rows the step may take away
-abbrev pub unmarks : Step → Option ℕ
-unmarks (step.Ask s asked rows) = ask_unmarks asked.ask
-unmarks (step.Due item) = Some item.number
-unmarks (step.Vote x space) = Some x
-unmarks (step.Decide x commits) = Some x
-unmarks _ = None
-
--- the row bears a mark of that transaction
-abbrev pub frees : Option ℕ → Row → Bool
-frees o row = option_map_or (λ x. is_marked x row) o false
+-- the step may take a mark from the row: one of the transaction that ends, or for which the row's space votes
+abbrev pub frees : Step → Row → Bool
+frees (step.Ask s asked rows) row = ask_frees asked.ask row
+frees (step.Due item) row = is_marked item.number row
+frees (step.Vote x space) row = row.space == space && is_marked x row
+frees (step.Decide x commits) row = is_marked x row
+frees _ row = false
 
 -- of this request that isn't said row by row: a class is declared, or several leases are cancelled together
 abbrev pub ask_frees_any : Ask → Bool
@@ -47,4 +42,4 @@ pub record WasThere (st : State) (act : Step) (b : Blocked) (row : Row) : Type 0
   pub was : Row
   pub there : Has st.rows was
   pub number : was.number ≡ row.number
-  pub free : IsTrue (frees (unmarks act) was) ⊎ IsTrue (is_available st b was)
+  pub free : IsTrue (frees act was) ⊎ IsTrue (is_available st b was)

@@ -7,7 +7,7 @@ ghost use Rattle.jsp_model.specs.declared.state.Row.{Row as OfRow};
 ghost use Rattle.jsp_model.specs.Lookup.{update, contains as has, is_caller as calls};
 ghost use Rattle.jsp_model.specs.Limits.{are_rising};
 ghost use Rattle.jsp_model.specs.Changes.{aborted, committed, published as publishes, release as released};
-ghost use Rattle.jsp_sight.specs.Rows.{offered, offered_among, held, entries_among, shows, shown_among, earlier as earlier_of, row_end, row_ending, with_reader, taken_row, settled, undone, released_row};
+ghost use Rattle.jsp_sight.specs.Rows.{offered, offered_among, held, entries_among, shows, shown_among, earlier as earlier_of, row_end, row_ending, with_reader, taken_row, settled, undone, released_row, is_of, is_held};
 
 use crate::scanned::ScannedRows;
 use jsp_index::HintedRows;
@@ -254,13 +254,14 @@ impl Rows {
         }
     }
 
-    /// Numbers among which are those of all rows that the transaction wrote, took or read.
-    pub fn held_by(&self, alloc: Global, x: u64) -> Result<Vec<u64>, NoMemory>
-        ensures { IfOk result (λ v. IsTrue (list_all (λ r. not (calls r.writer x || calls r.taker x || has r.readers x) || has v.items r.number) self.now)) }
+    /// Numbers among which are those of all rows that the transaction wrote, took or read, in a
+    /// space or, where none is named, in all.
+    pub fn held_by(&self, alloc: Global, x: u64, space: Option<u64>) -> Result<Vec<u64>, NoMemory>
+        ensures { IfOk result (λ v. IsTrue (list_all (λ r. not (is_of space r && is_held x r) || has v.items r.number) self.now)) }
     {
         match &self.kept {
-            Kept::Scanned(rows) => rows.held_by(alloc, x),
-            Kept::Hinted(rows) => rows.held_by(alloc, x),
+            Kept::Scanned(rows) => rows.held_by(alloc, x, space),
+            Kept::Hinted(rows) => rows.held_by(alloc, x, space),
         }
     }
 

@@ -7,7 +7,7 @@ ghost use Rattle.jsp_model.specs.declared.state.Row.{Row as OfRow};
 ghost use Rattle.jsp_model.specs.Lookup.{update, contains as has, is_caller as calls};
 ghost use Rattle.jsp_model.specs.Limits.{are_rising};
 ghost use Rattle.jsp_model.specs.Changes.{aborted, committed, published as publishes, release as released};
-ghost use Rattle.jsp_sight.specs.Rows.{offered, offered_among, held, entries_among, shows, shown_among, earlier as earlier_of, row_end, row_ending, with_reader, taken_row, settled, undone, released_row};
+ghost use Rattle.jsp_sight.specs.Rows.{offered, offered_among, held, entries_among, shows, shown_among, earlier as earlier_of, row_end, row_ending, with_reader, taken_row, settled, undone, released_row, is_of, is_held};
 
 use jsp_model::{Blocked, Item, MatchSet, Row, Vote};
 use jsp_sight::{
@@ -171,11 +171,12 @@ impl ScannedRows {
         published_among(alloc, &self.items, x)
     }
 
-    /// The numbers of the rows that the transaction wrote, took or read.
-    pub fn held_by(&self, alloc: Global, x: u64) -> Result<Vec<u64>, NoMemory>
-        ensures { IfOk result (λ v. IsTrue (list_all (λ r. not (calls r.writer x || calls r.taker x || has r.readers x) || has v.items r.number) self.now)) }
+    /// The numbers of the rows that the transaction wrote, took or read, in a space or, where none
+    /// is named, in all.
+    pub fn held_by(&self, alloc: Global, x: u64, space: Option<u64>) -> Result<Vec<u64>, NoMemory>
+        ensures { IfOk result (λ v. IsTrue (list_all (λ r. not (is_of space r && is_held x r) || has v.items r.number) self.now)) }
     {
-        let numbers = numbers_held(alloc, &self.items, x)?;
+        let numbers = numbers_held(alloc, &self.items, x, space)?;
         Ok(numbers)
     }
 
@@ -388,15 +389,29 @@ fn add_if_published(published: &mut Vec<Row>, row: &Row, x: u64) -> Result<(), N
     Ok(())
 }
 
-fn numbers_held(alloc: Global, rows: &[Row], x: u64) -> Result<Vec<u64>, NoMemory>
-    ensures { IfOk result (λ v. v.items ≡ map (λ r. r.number) (filter (λ r. calls r.writer x || calls r.taker x || has r.readers x) rows.now)) }
+fn numbers_held(
+    alloc: Global,
+    rows: &[Row],
+    x: u64,
+    space: Option<u64>,
+) -> Result<Vec<u64>, NoMemory>
+    ensures { IfOk result (λ v. v.items ≡ map (λ r. r.number) (filter (λ r. is_of space r && is_held x r) rows.now)) }
 {
-    let held = rows.iter().filter(|r| is_held(r, x));
+    let held = rows.iter().filter(|r| is_at(r, space) && bears_mark(r, x));
     held.map(|r| r.number).collect(alloc)
 }
 
-fn is_held(row: &Row, x: u64) -> bool
-    ensures { result ≡ (calls row.now.writer x || calls row.now.taker x || has row.now.readers x) }
+fn is_at(row: &Row, space: Option<u64>) -> bool
+    ensures { result ≡ is_of space row.now }
+{
+    match space {
+        None => true,
+        Some(space) => row.space == space,
+    }
+}
+
+fn bears_mark(row: &Row, x: u64) -> bool
+    ensures { result ≡ is_held x row.now }
 {
     is_caller(row.writer, x) || is_caller(row.taker, x) || contains(row.readers.as_slice(), x)
 }

@@ -19,7 +19,7 @@ invariant_of-image c =
     c.make-made.ensures.err in (
       limits,
       offered_either c.make-made.result st act c.make-made.new.state c.image.inside.offers c.offer_let_go.new.offers c.add_between.new.self limits c.make-made.ensures.ok c.make-made.ensures.err
-          c.image.invariant.1 c.offer_let_go.ensures.any c.offer_let_go.ensures.marked c.offer_let_go.ensures.keeps
+          c.image.invariant.1 c.offer_let_go.ensures.any c.offer_let_go.ensures.freed c.offer_let_go.ensures.keeps
           (λ n from to. c.add_between.ensures.added n (subst (λ m. m ≤ n) (sym c.next_number-first_new.ensures) from) (subst (λ m. n < m) (sym c.next_number-past_new.ensures) to)) c.add_between.ensures.keeps,
     )
 

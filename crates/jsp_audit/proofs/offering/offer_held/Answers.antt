@@ -3,16 +3,16 @@ use Rattle.std.specs.List.{list_all}
 use Rattle.jsp_model.specs.declared.state.State.{State}
 use Rattle.jsp_model.specs.declared.state.Row.{Row}
 use Rattle.jsp_model.specs.Lookup.{contains}
-use Rattle.jsp_quiet.specs.Waking.{is_marked}
+use Rattle.jsp_audit.specs.Unmarking.{is_unmarked}
 use Rattle.jsp_audit.proofs.OnOffer.{all_opened, all_added}
 use Rattle.jsp_audit.proofs.offering.offer_held.Goals as goal
 
-pub returns-in-Ok-clause-marked : goal.returns-in-Ok-clause-marked
-returns-in-Ok-clause-marked c =
-    let held : list_all (λ (r : Row). not (is_marked c.args.x r) || contains c.in-Ok.numbers.items r.number) c.state.inside.rows ≡ true = c.in-Ok.ensures in
-    let rows = subst (λ (st : State). list_all (λ (r : Row). not (is_marked c.args.x r) || contains c.in-Ok.numbers.items r.number) st.rows ≡ true) c.state.view_is held in
-    all_added (is_marked c.args.x) c.in-Ok.numbers.items c.add_all.new.self c.args.state.now.rows rows
+pub returns-in-Ok-clause-held : goal.returns-in-Ok-clause-held
+returns-in-Ok-clause-held c =
+    let held : list_all (λ (r : Row). not (is_unmarked c.args.unmarking r) || contains c.in-Ok.numbers.items r.number) c.state.inside.rows ≡ true = c.in-Ok.ensures in
+    let rows = subst (λ (st : State). list_all (λ (r : Row). not (is_unmarked c.args.unmarking r) || contains c.in-Ok.numbers.items r.number) st.rows ≡ true) c.state.view_is held in
+    all_added (is_unmarked c.args.unmarking) c.in-Ok.numbers.items c.add_all.new.self c.args.state.now.rows rows
     (λ n e. c.add_all.ensures.added n (subst (λ (ns : List ℕ). contains ns n ≡ true) (sym c.as_slice.ensures.value) e))
 
-pub returns-in-Err-clause-marked : goal.returns-in-Err-clause-marked
-returns-in-Err-clause-marked c = all_opened (is_marked c.args.x) c.open.new.self c.args.state.now.rows c.open.ensures
+pub returns-in-Err-clause-held : goal.returns-in-Err-clause-held
+returns-in-Err-clause-held c = all_opened (is_unmarked c.args.unmarking) c.open.new.self c.args.state.now.rows c.open.ensures

@@ -1,6 +1,5 @@
 use Rattle.std.proofs.Common.{take}
-use Rattle.jsp_keyed.specs.Kept.{Keeps}
-use Rattle.jsp_index.specs.Holding.{AreHeld}
+use Rattle.jsp_index.specs.Holding.{Keeps, AreHeld}
 use Rattle.jsp_index.proofs.holding.hold_all.Given as goal
 
 abbrev pub invariant-rows : goal.invariant-rows

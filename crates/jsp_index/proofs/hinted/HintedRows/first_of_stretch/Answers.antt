@@ -1,4 +1,4 @@
-use Rattle.std.proofs.Common.{◌≡◌, ℕ, Bool, ◌&&◌, Option, List, cond, option_copied, ap, ◌∙◌, subst}
+use Rattle.std.proofs.Common.{◌≡◌, ℕ, Bool, true, ◌&&◌, eqb, Option, List, cond, option_copied, ap, ◌∙◌, subst}
 use Rattle.std.specs.Prelude.{find, option_map}
 use Rattle.jsp_model.specs.declared.state.Row.{Row}
 use Rattle.jsp_index.specs.declared.starts.Unseen.{Unseen}
@@ -22,7 +22,9 @@ returns-clause-found g c =
     let mine : Option Row = option_copied c.first_of_many-mine.result in
     let first : Option Row = find (is_next (is_mine here own from rows) from) rows in
     let found : mine ≡ first = c.first_of_many-mine.ensures in
-    let opens = all_had_or strange own c.args.sought.now.takes c.args.sought.now.transaction here rows (λ r h. c.requires.had r (and_both (is_within c.args.last r.number) (g.P.Test.is_passed c.args.test.now r) h).1) c.requires.opens in
+    let passes : (r : Row) → here r ≡ true → g.P.Test.is_passed c.args.test.now r ≡ true = λ r h. (and_both (is_within c.args.last r.number) (g.P.Test.is_passed c.args.test.now r) h).1 in
+    let inside : (r : Row) → here r ≡ true → eqb r.space c.args.sought.now.space ≡ true = λ r h. (and_both _ _ (c.requires.asked r (passes r h))).0 in
+    let opens = all_had_or strange own c.args.sought.now.space c.args.sought.now.takes c.args.sought.now.transaction here rows inside (λ r h. c.requires.had r (passes r h)) c.requires.opens in
     let up = subst AreNumbered c.self.view_is c.first_behind-open.ensures.numbered in
     let before : Unseen → Option ℕ → List Row → Option Row = λ u o w. find (is_next (is_before u o here) from) w in
     let ahead : option_copied c.first_behind-open.result ≡ before strange (option_map number mine) rows = c.first_behind-open.ensures.found

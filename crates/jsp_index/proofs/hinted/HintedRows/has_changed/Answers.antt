@@ -1,15 +1,12 @@
-use Rattle.std.proofs.Common.{◌≡◌, false, ◌&&◌, Some, None, ap, sym, subst, ◌∙◌, arith, rules}
-use Rattle.std.specs.Prelude.{nat_eq, filter, is_some, option_copied}
+use Rattle.std.proofs.Common.{◌≡◌, ◌&&◌, Some, None, ap, sym, subst, ◌∙◌, arith, rules}
+use Rattle.std.specs.Prelude.{filter, is_some, option_copied}
 use Rattle.std.specs.List.{list_any}
-use Rattle.std.specs.Option.{option_map_or}
-use Rattle.std.specs.HashMap.{get}
 use Rattle.std.proofs.lemmas.Grind.{common_steps}
 use Rattle.jsp_model.specs.declared.state.Row.{Row}
 use Rattle.jsp_table.specs.Numbers.{contains}
 use Rattle.jsp_index.specs.Finding.{is_next}
-use Rattle.jsp_index.specs.Holding.{IsHeld, AreHeld}
-use Rattle.jsp_keyed.proofs.Named.{not_named}
-use Rattle.jsp_index.proofs.Holders.{is_changing, changing_named, changing_none}
+use Rattle.jsp_index.specs.Holding.{listed, is_in, IsHeld, AreHeld}
+use Rattle.jsp_index.proofs.Holders.{is_changing, changing_listed, changing_none}
 use Rattle.jsp_index.proofs.Single.{any_found}
 use Rattle.jsp_index.proofs.Walks.{named_filter, none_filter, any_empty, any_same}
 use Rattle.jsp_index.proofs.hinted.HintedRows.has_changed.Goals as goal
@@ -19,8 +16,8 @@ returns-in_default c =
     let holders = c.self.inside.holders in
     let x = c.args.x in
     let p = is_changing x c.args.space in
-    let none : get nat_eq holders x ≡ None = first_of (search rules, grind (arith, common_steps)) in
-    let nothing = none_filter (IsHeld holders) p c.self.inside.rows c.self.invariant (λ r h. changing_none holders x c.args.space r h (not_named holders x r.number none)) in
+    let none : listed holders x c.args.space ≡ None = first_of (search rules, grind (arith, common_steps)) in
+    let nothing = none_filter (IsHeld holders) p c.self.inside.rows c.self.invariant (λ r h. changing_none holders x c.args.space r h (ap (λ o. is_in o r.number) none)) in
     sym (any_empty p c.args.self.now (ap (filter p) (sym c.self.view_is) ∙ nothing))
 
 pub returns : goal.returns
@@ -31,9 +28,9 @@ returns c =
     let ns = c.in-Some.numbers.now in
     let rows = c.keyed-rows.result.now in
     let q = is_next (λ (r : Row). contains ns r.number && p r) 0 in
-    let there : get nat_eq holders x ≡ Some ns = first_of (search rules, grind (arith, common_steps)) in
+    let there : listed holders x c.args.space ≡ Some ns = first_of (search rules, grind (arith, common_steps)) in
     let held : AreHeld holders rows = subst (AreHeld holders) (sym c.keyed-rows.ensures) c.self.invariant in
     let all = named_filter (IsHeld holders) p (λ (r : Row). contains ns r.number) rows c.places.ensures.positive held
-    (λ r h k. sym (ap (λ o. option_map_or (λ ns. contains ns r.number) o false) there) ∙ changing_named holders x c.args.space r h k) in
+    (λ r h k. sym (ap (λ o. is_in o r.number) there) ∙ changing_listed holders x c.args.space r h k) in
     let some : c.is_some.result ≡ is_some (option_copied c.first_named.result) = search rules in
     some ∙ (ap is_some c.first_named.ensures.found ∙ (any_found q rows ∙ (any_same q p rows all ∙ ap (list_any p) (c.keyed-rows.ensures ∙ c.self.view_is))))

@@ -1,16 +1,13 @@
 use Rattle.std.proofs.Common.{◌≡◌, ℕ, Bool, false, Some, None, ap, sym, subst, ◌∙◌, arith, rules}
-use Rattle.std.specs.Prelude.{nat_eq}
-use Rattle.std.specs.Option.{option_map_or}
 use Rattle.std.specs.List.{filter_map}
-use Rattle.std.specs.HashMap.{get}
 use Rattle.std.proofs.lemmas.Grind.{common_steps}
 use Rattle.jsp_model.specs.declared.state.Row.{Row}
 use Rattle.jsp_model.specs.Changes.{release}
 use Rattle.jsp_sight.specs.Rows.{released_row}
-use Rattle.jsp_table.specs.Numbers.{names, contains}
+use Rattle.jsp_table.specs.Numbers.{contains}
 use Rattle.jsp_table.proofs.Finding.{each}
 use Rattle.jsp_index.specs.Changing.{revised_by}
-use Rattle.jsp_index.specs.Holding.{IsHeld, AreHeld}
+use Rattle.jsp_index.specs.Holding.{listed, lists, is_in, IsHeld, AreHeld}
 use Rattle.jsp_index.proofs.Holders.{released_is, unheld_released, released_held, released_keys, none_revised, held_revised}
 use Rattle.jsp_index.proofs.hinted.HintedRows.release.Goals as goal
 
@@ -21,9 +18,9 @@ returns-in_default c =
     let gone : Row → Bool = λ _. false in
     let changed : Row → Row = released_row c.args.vote x c.args.space in
     let rows = c.self.inside.rows in
-    let none : get nat_eq holders x ≡ None = first_of (search rules, grind (arith, common_steps)) in
-    let unnamed : (n : ℕ) → names holders x n ≡ false = λ n. ap (λ o. option_map_or (λ ns. contains ns n) o false) none in
-    let same : filter_map (revised_by gone changed) rows ≡ rows = none_revised (IsHeld holders) gone changed rows c.self.invariant (λ r h. unheld_released holders c.args.vote x c.args.space r h (unnamed r.number)) in
+    let none : listed holders x c.args.space ≡ None = first_of (search rules, grind (arith, common_steps)) in
+    let unlisted : (n : ℕ) → lists holders x c.args.space n ≡ false = λ n. ap (λ o. is_in o n) none in
+    let same : filter_map (revised_by gone changed) rows ≡ rows = none_revised (IsHeld holders) gone changed rows c.self.invariant (λ r h. unheld_released holders c.args.vote x c.args.space r h (unlisted r.number)) in
     sym c.self.view_is ∙ (sym same ∙ (released_is c.args.vote x c.args.space rows ∙ ap (release c.args.vote x c.args.space) c.self.view_is))
 
 pub revise_all-requires-clause-keys : goal.revise_all-requires-clause-keys
@@ -36,9 +33,9 @@ revise_all-requires-clause-named c =
     let gone : Row → Bool = λ _. false in
     let changed : Row → Row = released_row c.args.vote x c.args.space in
     let ns = c.in-Some.numbers.now in
-    let there : get nat_eq holders x ≡ Some ns = first_of (search rules, grind (arith, common_steps)) in
+    let there : listed holders x c.args.space ≡ Some ns = first_of (search rules, grind (arith, common_steps)) in
     each (IsHeld holders) (λ (r : Row). contains ns r.number ≡ false → revised_by gone changed r ≡ Some r) c.self.inside.rows c.self.invariant
-    (λ r h none. unheld_released holders c.args.vote x c.args.space r h (ap (λ o. option_map_or (λ ns. contains ns r.number) o false) there ∙ none))
+    (λ r h none. unheld_released holders c.args.vote x c.args.space r h (ap (λ o. is_in o r.number) there ∙ none))
 
 pub invariant_of-self : goal.invariant_of-self
 invariant_of-self c =
