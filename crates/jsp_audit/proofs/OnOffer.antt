@@ -1,5 +1,5 @@
 -- After a step each row that a waiting request may be given is on offer: it was before, or the step let it go, or it is new.
-use Rattle.std.proofs.Common.{◌≡◌, refl, sym, ap, ◌∙◌, subst, ℕ, ◌≤◌, ◌<◌, ◌⊎◌, inl, inr, List, [], ◌∷◌, map, filter, length, Bool, true, false, not, cond, ◌||◌, ◌==◌, Option, None, nat_lt, true≢false, eqb-true, arith}
+use Rattle.std.proofs.Common.{◌≡◌, ◌≢◌, refl, sym, ap, ◌∙◌, subst, ℕ, ◌≤◌, ◌<◌, ◌⊎◌, inl, inr, List, [], ◌∷◌, map, filter, length, Bool, true, false, not, cond, ◌||◌, ◌==◌, Option, None, nat_lt, true≢false, eqb-true, arith}
 use Rattle.std.specs.Prelude.{Result, Ok, Err, OnOk, OnErr}
 use Rattle.std.specs.List.{list_all}
 use Rattle.std.proofs.lemmas.Bool.{and_parts, and_from, ltb-true, false_from_ne_true}
@@ -65,10 +65,14 @@ needs_not st b r h e = let some = given_some st b st.rows r h e in rw some refl
 pub record Offered (st : State) (act : Step) (before within after : Option (List ℕ)) : Type 0 where
   pub old : are_offered before st ≡ true
   pub any : frees_any act ≡ true → within ≡ None
-  pub freed : list_all (λ r. not (frees act r) || is_offered within r.number) st.rows ≡ true
+  pub freed : st.blocked ≢ [] → list_all (λ r. not (frees act r) || is_offered within r.number) st.rows ≡ true
   pub keeps : (n : ℕ) → is_offered before n ≡ true → is_offered within n ≡ true
   pub new : (n : ℕ) → st.next_number ≤ n → n < (next st act).next_number → is_offered after n ≡ true
   pub stays : (n : ℕ) → is_offered within n ≡ true → is_offered after n ≡ true
+
+some_has : {A : Type 0} (xs : List A) (x : A) → Has xs x → xs ≢ []
+some_has [] x h e = absurd h
+some_has (y ∷ ys) x h e = absurd (cc)
 
 or_right : (a b : Bool) → b ≡ true → (a || b) ≡ true
 or_right true b e = refl
@@ -94,17 +98,14 @@ offered_after st act before within after limits o =
     some b r in_blocked in_rows e true any = o.stays r.number (subst (λ w. is_offered w r.number ≡ true) (sym (o.any any)) refl)
     some b r in_blocked in_rows e false none = came (free_comes st act b r none in_rows e)
       where
-        there : (w : WasThere st act b r) → (frees act w.was ≡ true) ⊎ (is_available st b w.was ≡ true) → is_offered after w.was.number ≡ true
-        there w (inl f) = o.stays w.was.number (one_that (frees act w.was) (is_offered within w.was.number) (one_of_all (λ r. not (frees act r) || is_offered within r.number) st.rows w.was o.freed w.there) f)
-        there w (inr a) = waited (waiting_comes st act b in_blocked)
-          where
-            waited : Has st.blocked b ⊎ ((st.next_number ≤ b.number) × (must_wait (next st act) b ≡ true)) → is_offered after w.was.number ≡ true
-            waited (inl old) = o.stays w.was.number (o.keeps w.was.number (was_offered st before b w.was o.old old w.there a))
-            waited (inr new) = absurd (true≢false (sym new.1 ∙ needs_not (next st act) b r in_rows e))
+        there : (w : WasThere st act b r) → (frees act w.was ≡ true) ⊎ (is_available st b w.was ≡ true) → Has st.blocked b ⊎ ((st.next_number ≤ b.number) × (must_wait (next st act) b ≡ true)) → is_offered after w.was.number ≡ true
+        there w (inl f) (inl old) = o.stays w.was.number (one_that (frees act w.was) (is_offered within w.was.number) (one_of_all (λ r. not (frees act r) || is_offered within r.number) st.rows w.was (o.freed (some_has st.blocked b old)) w.there) f)
+        there w (inr a) (inl old) = o.stays w.was.number (o.keeps w.was.number (was_offered st before b w.was o.old old w.there a))
+        there w free (inr new) = absurd (true≢false (sym new.1 ∙ needs_not (next st act) b r in_rows e))
 
         came : (st.next_number ≤ r.number) ⊎ WasThere st act b r → is_offered after r.number ≡ true
         came (inl new) = o.new r.number new (below r in_rows)
-        came (inr w) = subst (λ n. is_offered after n ≡ true) w.number (there w w.free)
+        came (inr w) = subst (λ n. is_offered after n ≡ true) w.number (there w w.free (waiting_comes st act b in_blocked))
 
     each : (b : Blocked) (r : Row) → Has (next st act).blocked b → Has (next st act).rows r → (d : Bool) → is_available (next st act) b r ≡ d → (not d || is_offered after r.number) ≡ true
     each b r in_blocked in_rows true e = some b r in_blocked in_rows e (frees_any act) refl
@@ -121,7 +122,7 @@ more_offered st o p more h =
     go r false k = refl
 
 pub offered_either : {T E : Type 0} (result : Result T E) (st : State) (act : Step) (new : State) (before within after : Option (List ℕ)) → IsWithinLimits new → OnOk result (new ≡ next st act) → OnErr result (new ≡ st)
-    → are_offered before st ≡ true → (frees_any act ≡ true → within ≡ None) → list_all (λ r. not (frees act r) || is_offered within r.number) st.rows ≡ true
+    → are_offered before st ≡ true → (frees_any act ≡ true → within ≡ None) → (st.blocked ≢ [] → list_all (λ r. not (frees act r) || is_offered within r.number) st.rows ≡ true)
     → ((n : ℕ) → is_offered before n ≡ true → is_offered within n ≡ true) → ((n : ℕ) → st.next_number ≤ n → n < new.next_number → is_offered after n ≡ true) → ((n : ℕ) → is_offered within n ≡ true → is_offered after n ≡ true)
     → are_offered after new ≡ true
 offered_either (Ok t) st act new before within after limits ok err old any freed keeps added stays =

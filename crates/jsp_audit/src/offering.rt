@@ -1,5 +1,5 @@
 //! What a step puts on offer to the requests that wait.
-ghost use Rattle.std.specs.Prelude.{◌≡◌, ◌||◌, ℕ, true, false, not, None};
+ghost use Rattle.std.specs.Prelude.{◌≡◌, ◌≢◌, ◌||◌, ℕ, [], true, false, not, None};
 ghost use Rattle.std.specs.List.{list_all};
 ghost use Rattle.std.specs.Option.{option_map_or};
 ghost use Rattle.jsp_core.specs.Offering.{is_offered};
@@ -22,14 +22,17 @@ struct Unmarking {
 }
 
 /// Offers the rows that a step to come may let go: those that bear marks of the transaction whose
-/// marks it takes away. Where it can't be said which these are, any row is on offer.
+/// marks it takes away. Where it can't be said which these are, any row is on offer. Where nobody
+/// waits, none need be.
 pub(crate) fn offer_let_go(alloc: Global, state: &Core, offers: &mut Offers, step: &Step)
     ensures any { lets_any_go step.now ≡ true → offers.new ≡ None }
-    ensures freed { list_all (λ r. not (frees step.now r) || is_offered offers.new r.number) state.now.rows ≡ true }
+    ensures freed { state.now.blocked ≢ [] → list_all (λ r. not (frees step.now r) || is_offered offers.new r.number) state.now.rows ≡ true }
     ensures keeps { (n : ℕ) → is_offered offers.old n ≡ true → is_offered offers.new n ≡ true }
 {
     if frees_any(step) {
         offers.open();
+    } else if state.blocked.is_known_empty() {
+        return;
     } else if let Some(unmarking) = unmarked_by(step) {
         offer_held(alloc, state, offers, unmarking);
     }

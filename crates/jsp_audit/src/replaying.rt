@@ -136,5 +136,8 @@ fn make_step(
 {
     let mut sayings = said(alloc, image, step)?;
     told.append(&mut sayings)?;
-    apply(alloc, image, step)
+    apply(alloc, image, step)?;
+    // No space is to be looked through because of what was decided before.
+    image.apply_all();
+    Ok(())
 }

@@ -60,4 +60,52 @@ impl LiveImage {
     {
         &self.state
     }
+
+    /// Whether any space has a decision that it hasn't applied.
+    pub fn has_pending(&self) -> bool {
+        self.state.rows.has_pending()
+    }
+
+    /// The space applies the decisions that it hasn't applied. Takes no memory.
+    pub fn apply_in(&mut self, space: u64)
+        ensures { self.new ≡ self.old }
+    {
+        apply_in(&mut self.state, space);
+    }
+
+    /// The spaces apply theirs in which a row ends that is first to end. Takes no memory.
+    pub fn apply_due(&mut self)
+        ensures { self.new ≡ self.old }
+    {
+        apply_due(&mut self.state);
+    }
+
+    /// All spaces apply theirs. Takes no memory.
+    pub fn apply_all(&mut self)
+        ensures { self.new ≡ self.old }
+    {
+        apply_all(&mut self.state);
+    }
+}
+
+fn apply_in(state: &mut Core, space: u64)
+    ensures { state.new ≡ state.old }
+{
+    let rows = &mut state.rows;
+    rows.apply_in(space);
+}
+
+fn apply_due(state: &mut Core)
+    ensures { state.new ≡ state.old }
+{
+    let time = state.time;
+    let rows = &mut state.rows;
+    rows.apply_due(time);
+}
+
+fn apply_all(state: &mut Core)
+    ensures { state.new ≡ state.old }
+{
+    let rows = &mut state.rows;
+    rows.apply_all();
 }

@@ -1,8 +1,6 @@
 -- How a history ends.
-use Rattle.std.proofs.Common.{◌≡◌, ℕ, zero, suc, List, ◌∙◌, ◌++◌, refl, ap, sym, subst}
+use Rattle.std.proofs.Common.{◌≡◌, ℕ, zero, suc, List, ◌∙◌, refl, sym, subst}
 use Rattle.jsp_model.specs.declared.step.Step.{Step}
-use Rattle.jsp_model.specs.Lookup.{empty}
-use Rattle.jsp_model.specs.Runs.{IsRun, state_after}
 use Rattle.jsp_drive.specs.declared.era.Era.{Era}
 use Rattle.jsp_kept.specs.History.{History, IsKept}
 use Rattle.jsp_kept.specs.Eras.{Grows}

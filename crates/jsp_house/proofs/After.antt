@@ -1,6 +1,6 @@
 -- What a call does, after steps that nobody asked for.
 use Rattle.std.proofs.Common.{◌≡◌, refl, ap, ◌∙◌, ℕ, ◌^◌, List, [], ◌∷◌, ◌++◌, Bool, true, false, ◌&&◌, ◌==◌, nat_le, nat_lt, Result, Ok, Err}
-use Rattle.std.specs.Prelude.{None, IfErr, if◌then◌else◌}
+use Rattle.std.specs.Prelude.{IfErr, if◌then◌else◌}
 use Rattle.std.specs.List.{list_any, list_all}
 use Rattle.jsp_model.specs.declared.state.State.{State}
 use Rattle.jsp_model.specs.declared.step.Step.{Step}
@@ -9,7 +9,6 @@ use Rattle.jsp_model.specs.declared.house.Input.TheVariants as input
 use Rattle.jsp_model.specs.declared.house.Stopped.{Stopped}
 use Rattle.jsp_model.specs.Lookup.{contains}
 use Rattle.jsp_model.specs.Quiet.{is_quiet}
-use Rattle.jsp_model.specs.Steps.{is_fault}
 use Rattle.jsp_model.specs.House.{Goes, Acts, Leaves, accepts, own_of, step_of, touched, was_done}
 use Rattle.jsp_model.proofs.Joining.{own_of-append, Makes-then}
 use Rattle.jsp_quiet.proofs.Covering.{all_both, all_parts, covered, touched-append}

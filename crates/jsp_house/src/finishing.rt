@@ -11,6 +11,7 @@ ghost use Rattle.jsp_audit.specs.Judging.{refusal_in};
 ghost use Rattle.jsp_house.specs.Making.{KeepsLog};
 ghost use Rattle.jsp_house.specs.Owing.{IsDone};
 
+use crate::applying::apply_touched;
 use crate::making::make;
 use crate::owing::owe;
 use crate::quieting::quieting_step;
@@ -79,16 +80,18 @@ pub(crate) fn make_owing(
 /// touches.
 fn next_step<T: Coming>(
     alloc: Global,
-    image: &LiveImage,
+    image: &mut LiveImage,
     debt: &[u64],
     to_come: Option<&T>,
 ) -> Result<Option<Step>, NoMemory>
-    ensures legal { IfOk result (λ o. IfSome o (λ s. IsTrue (is_legal image.now s))) }
+    ensures same { image.new ≡ image.old }
+    ensures legal { IfOk result (λ o. IfSome o (λ s. IsTrue (is_legal image.old s))) }
     ensures unasked { IfOk result (λ o. IfSome o (λ s. IsTrue (is_unasked s))) }
-    ensures turn { IfOk result (λ o. IfSome o (λ s. IsTrue (comes_in_turn image.now debt.now s))) }
-    ensures some { IfOk result (λ o. IfSome o (λ s. IsDone image.now debt.now (option_map T.step (option_copied to_come.entry)) → ⊥)) }
-    ensures none { IfOk result (λ o. IfNone o (IsDone image.now debt.now (option_map T.step (option_copied to_come.entry)))) }
+    ensures turn { IfOk result (λ o. IfSome o (λ s. IsTrue (comes_in_turn image.old debt.now s))) }
+    ensures some { IfOk result (λ o. IfSome o (λ s. IsDone image.old debt.now (option_map T.step (option_copied to_come.entry)) → ⊥)) }
+    ensures none { IfOk result (λ o. IfNone o (IsDone image.old debt.now (option_map T.step (option_copied to_come.entry)))) }
 {
+    apply_touched(alloc, image, debt, to_come);
     let state = image.state();
     if let Some(step) = quieting_of(alloc, image, debt)? {
         return Ok(Some(step));

@@ -13,6 +13,7 @@
 
 mod acting;
 mod answering;
+mod applying;
 mod choosing;
 mod finishing;
 mod making;

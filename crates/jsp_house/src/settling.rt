@@ -9,7 +9,7 @@ ghost use Rattle.jsp_house.specs.Making.{KeepsLog};
 
 use crate::owing::owe;
 use crate::performing::{clear, perform};
-use crate::unquiet::first_unquiet;
+use crate::unquiet::{first_to_quiet, first_unquiet};
 use jsp_core::{Core, LiveImage};
 use jsp_model::{Joined, Settled, Step, Stopped, Vote, Why};
 use jsp_state::transaction_of;
@@ -83,7 +83,7 @@ fn quiet_next(
     ensures keeps { KeepsLog image.old image.new bound log.old log.new }
     ensures why { IfErr result (λ e. MayStop bound (vec_len log.new) e.why) }
 {
-    match first_unquiet(image) {
+    match first_to_quiet(image) {
         None => match clear(alloc, image, debt, false, bound, log) {
             Err(stopped) => Err(stopped),
             Ok(()) => Ok(Settled::Idle),

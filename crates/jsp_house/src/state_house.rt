@@ -70,6 +70,12 @@ impl StateHouse<ByHints> {
 }
 
 impl<K> StateHouse<K> {
+    /// How many decisions a space hasn't applied. A house whose rows are looked at one by one applies each
+    /// at once. Takes no memory.
+    pub fn pending(&self, space: u64) -> u64 {
+        self.image.state().rows.pending(space) as u64
+    }
+
     /// The empty house of a config, with its rows kept so.
     fn keeping(alloc: Global, config: &Config, keeping: Keeping) -> Result<StateHouse<K>, NoMemory>
         ensures view { IfOk result (λ h. h.image ≡ empty config.now) }

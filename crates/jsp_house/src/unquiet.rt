@@ -17,6 +17,15 @@ pub(crate) fn first_unquiet(image: &LiveImage) -> Option<u64>
     (0..count).find(|space| !is_quiet(image, *space))
 }
 
+/// The same, once each space has applied what was decided.
+pub(crate) fn first_to_quiet(image: &mut LiveImage) -> Option<u64>
+    ensures found { result ≡ first_of_all image.old }
+    ensures same { image.new ≡ image.old }
+{
+    image.apply_all();
+    first_unquiet(image)
+}
+
 /// The first of these spaces, in the configured order, that isn't quiet.
 pub(crate) fn first_unquiet_of(image: &LiveImage, spaces: &[u64]) -> Option<u64>
     ensures found { result ≡ find (λ p. has spaces.now p && not (quiet image.now p)) (places image.now) }

@@ -25,6 +25,9 @@ is_publishing x r = is_caller r.writer x && not (is_caller r.taker x)
 abbrev pub is_changing : ℕ → ℕ → Row → Bool
 is_changing x space r = eqb r.space space && (is_caller r.writer x || is_caller r.taker x)
 
+abbrev pub is_holding : ℕ → ℕ → Row → Bool
+is_holding x space r = eqb r.space space && is_held x r
+
 pub one_reader_more : (P Q : ℕ → Type 0) (xs : List ℕ) (i : ℕ) → i < length xs → ((x : ℕ) → P x → Q x) → AllByRecursion P (take i xs) → Q (get_or xs i 0) → AllByRecursion Q (take (i + 1) xs)
 one_reader_more P Q xs i lt still h this = rw (take_more xs i 0 lt) (All-append Q (take i xs) (get_or xs i 0 ∷ []) (each P Q (take i xs) h still) (this, tt))
 
@@ -57,6 +60,10 @@ aborted_is x (row ∷ rows) = at (is_caller row.writer x) refl (aborted_is x row
 pub released_is : (v : Vote) (x space : ℕ) (rows : List Row) → filter_map (revised_by (λ _. false) (released_row v x space)) rows ≡ release v x space rows
 released_is v x space [] = refl
 released_is v x space (row ∷ rows) = ap (λ w. released_row v x space row ∷ w) (released_is v x space rows)
+
+pub not_released : (v : Vote) (x space : ℕ) (rows : List Row) → is_not_changed v ≡ false → rows ≡ release v x space rows
+not_released v x space [] none = refl
+not_released v x space (row ∷ rows) none = rw none (ap (λ w. row ∷ w) (not_released v x space rows none))
 
 -- ---- what stays the same in a row that changes
 
@@ -107,13 +114,13 @@ undone_twice x r = at (is_caller r.taker x) refl where
   at true e = ap (λ (w : List ℕ). record r { taker = None; readers = w }) (unread_twice x r.readers)
   at false e = rw e (ap (λ (w : List ℕ). record r { readers = w }) (unread_twice x r.readers))
 
-settled_taker : (x : ℕ) (r : Row) → (settled x r).taker ≡ r.taker
+pub settled_taker : (x : ℕ) (r : Row) → (settled x r).taker ≡ r.taker
 settled_taker x r = at (is_caller r.writer x) where
   at : (b : Bool) → (unread x (cond b (record r { writer = None }) r)).taker ≡ r.taker
   at true = refl
   at false = refl
 
-undone_writer : (x : ℕ) (r : Row) → (undone x r).writer ≡ r.writer
+pub undone_writer : (x : ℕ) (r : Row) → (undone x r).writer ≡ r.writer
 undone_writer x r = at (is_caller r.taker x) where
   at : (b : Bool) → (unread x (cond b (record r { taker = None }) r)).writer ≡ r.writer
   at true = refl
@@ -178,12 +185,15 @@ module _ {S : Type 0} where
   abbrev pub lists_row : HashMap ℕ (List Holding) S → Row → ℕ → Bool
   lists_row holders row y = lists holders y row.space row.number
 
-  still_held : (old new : HashMap ℕ (List Holding) S) (row : Row) → Keeps old new → IsHeld old row → IsHeld new row
-  still_held old new row keeps h = record {
-    by_writer = λ x e. keeps x row.space row.number (h.by_writer x e);
-    by_taker = λ x e. keeps x row.space row.number (h.by_taker x e);
-    by_reader = each (λ x. lists_row old row x ≡ true) (λ x. lists_row new row x ≡ true) row.readers h.by_reader (λ x g. keeps x row.space row.number g);
+  pub row_still_held : (old new : HashMap ℕ (List Holding) S) (row : Row) → ((y : ℕ) → lists_row old row y ≡ true → lists_row new row y ≡ true) → IsHeld old row → IsHeld new row
+  row_still_held old new row keeps h = record {
+    by_writer = λ x e. keeps x (h.by_writer x e);
+    by_taker = λ x e. keeps x (h.by_taker x e);
+    by_reader = each (λ x. lists_row old row x ≡ true) (λ x. lists_row new row x ≡ true) row.readers h.by_reader keeps;
   }
+
+  still_held : (old new : HashMap ℕ (List Holding) S) (row : Row) → Keeps old new → IsHeld old row → IsHeld new row
+  still_held old new row keeps = row_still_held old new row (λ y. keeps y row.space row.number)
 
   pub all_still_held : (old new : HashMap ℕ (List Holding) S) (rows : List Row) → Keeps old new → AreHeld old rows → AreHeld new rows
   all_still_held old new rows keeps h = each (IsHeld old) (IsHeld new) rows h (λ row g. still_held old new row keeps g)
@@ -304,6 +314,16 @@ module _ {S : Type 0} where
         ap (λ (w : List ℕ). Some (record r { readers = w })) (readers_stay (lists_row holders r) x r.readers h.by_reader (ap (λ s. lists holders x s r.number) here ∙ none))
     at false e = refl
 
+  -- a row that a transaction holds is listed for it
+  pub held_listed : (holders : HashMap ℕ (List Holding) S) (x : ℕ) (r : Row) → IsHeld holders r → is_held x r ≡ true → lists_row holders r x ≡ true
+  held_listed holders x r h is = elim (or_cases (is_caller r.writer x || is_caller r.taker x) (has r.readers x) is) [
+    | inl e ↦ elim (or_cases (is_caller r.writer x) (is_caller r.taker x) e) [
+      | inl f ↦ h.by_writer x f
+      | inr f ↦ h.by_taker x f
+    ]
+    | inr e ↦ is_reader (λ y. lists_row holders r y) x r.readers e h.by_reader
+  ]
+
   pub publishing_listed : (holders : HashMap ℕ (List Holding) S) (x : ℕ) (r : Row) → IsHeld holders r → is_publishing x r ≡ true → lists_row holders r x ≡ true
   publishing_listed holders x r h p = h.by_writer x (and_both (is_caller r.writer x) (not (is_caller r.taker x)) p).0
 
@@ -318,6 +338,17 @@ module _ {S : Type 0} where
         | inr e ↦ h.by_taker x e
       ] in
       subst (λ s. lists holders x s r.number ≡ true) (eqb_eq r.space space two.0) here
+
+  pub holding_listed : (holders : HashMap ℕ (List Holding) S) (x space : ℕ) (r : Row) → IsHeld holders r → is_holding x space r ≡ true → lists holders x space r.number ≡ true
+  holding_listed holders x space r h p =
+      let two = and_both (eqb r.space space) (is_held x r) p in
+      subst (λ s. lists holders x s r.number ≡ true) (eqb_eq r.space space two.0) (held_listed holders x r h two.1)
+
+  pub holding_none : (holders : HashMap ℕ (List Holding) S) (x space : ℕ) (r : Row) → IsHeld holders r → lists holders x space r.number ≡ false → is_holding x space r ≡ false
+  holding_none holders x space r h none = at (is_holding x space r) refl where
+    at : (b : Bool) → is_holding x space r ≡ b → is_holding x space r ≡ false
+    at true e = absurd (cc (holding_listed holders x space r h e, none))
+    at false e = e
 
   pub changing_none : (holders : HashMap ℕ (List Holding) S) (x space : ℕ) (r : Row) → IsHeld holders r → lists holders x space r.number ≡ false → is_changing x space r ≡ false
   changing_none holders x space r h none = at (is_changing x space r) refl where

@@ -13,3 +13,4 @@ pub mod Having
 pub mod OwnRows
 pub mod InBoth
 pub mod ByStretches
+pub mod Fates

@@ -1,5 +1,5 @@
 -- What is listed for a space, and rows that are revised space by space.
-use Rattle.std.proofs.Common.{◌≡◌, ℕ, zero, suc, ◌+◌, ◌<◌, ◌≤◌, Bool, true, false, cond, ◌&&◌, ◌||◌, eqb, List, [], ◌∷◌, ◌++◌, length, take, get_or, set, Option, Some, None, option_and_then, refl, ap, sym, ◌∙◌, subst, arith}
+use Rattle.std.proofs.Common.{◌≡◌, ◌≢◌, ℕ, zero, suc, ◌+◌, ◌<◌, ◌≤◌, Bool, true, false, cond, ◌&&◌, ◌||◌, eqb, List, [], ◌∷◌, ◌++◌, length, take, drop, get_or, set, Option, Some, None, option_and_then, refl, ap, sym, ◌∙◌, subst, arith}
 use Rattle.std.specs.Prelude.{find, is_some, position, option_map, ◌==◌}
 use Rattle.std.specs.List.{AllByRecursion, list_any, filter_map, cons_option}
 use Rattle.std.proofs.lemmas.Bool.{eq-eqb}
@@ -76,11 +76,36 @@ module _ (space : ℕ) (hs : List Holding) (i : ℕ) (d h : Holding) (found : po
   pub added_list : (n : ℕ) → contains h.numbers n ≡ true → is_in (listed_in (set hs i h) space) n ≡ true
   added_list n is = rw there.new is
 
-  pub added_keeps : ((n : ℕ) → contains (get_or hs i d).numbers n ≡ true → contains h.numbers n ≡ true) → (s n : ℕ) → is_in (listed_in hs s) n ≡ true → is_in (listed_in (set hs i h) s) n ≡ true
-  added_keeps keeps s n is = at (eqb space s) refl where
+  -- of each list there is still what the changed one keeps
+  pub kept_in : (s n : ℕ) → (s ≡ space → contains (get_or hs i d).numbers n ≡ true → contains h.numbers n ≡ true) → is_in (listed_in hs s) n ≡ true → is_in (listed_in (set hs i h) s) n ≡ true
+  kept_in s n keeps is = at (eqb space s) refl where
     at : (b : Bool) → eqb space s ≡ b → is_in (listed_in (set hs i h) s) n ≡ true
     at false e = rw (there.others s e) is
-    at true e = subst (λ t. is_in (listed_in (set hs i h) t) n ≡ true) (eqb_eq space s e) (added_list n (keeps n (ap (λ o. is_in o n) (sym there.old) ∙ (ap (λ t. is_in (listed_in hs t) n) (eqb_eq space s e) ∙ is))))
+    at true e =
+        let here : space ≡ s = eqb_eq space s e in
+        subst (λ t. is_in (listed_in (set hs i h) t) n ≡ true) here (added_list n (keeps (sym here) (ap (λ o. is_in o n) (sym there.old) ∙ (ap (λ t. is_in (listed_in hs t) n) here ∙ is))))
+
+  pub added_keeps : ((n : ℕ) → contains (get_or hs i d).numbers n ≡ true → contains h.numbers n ≡ true) → (s n : ℕ) → is_in (listed_in hs s) n ≡ true → is_in (listed_in (set hs i h) s) n ≡ true
+  added_keeps keeps s n = kept_in s n (λ here. keeps n)
+
+  pub removed_keeps : (m : ℕ) → ((n : ℕ) → n ≢ m → contains (get_or hs i d).numbers n ≡ true → contains h.numbers n ≡ true) → (s n : ℕ) → (eqb s space && eqb n m) ≡ false → is_in (listed_in hs s) n ≡ true → is_in (listed_in (set hs i h) s) n ≡ true
+  removed_keeps m keeps s n apart = kept_in s n (λ here. keeps n (λ e. absurd (cc (apart, eq-eqb s space here, eq-eqb n m e))))
+
+-- the list at the place of a space is the space's
+pub listed_there : (space : ℕ) (hs : List Holding) (i : ℕ) (d : Holding) → position (is_of space) hs ≡ Some i → listed_in hs space ≡ Some (get_or hs i d).numbers
+listed_there space hs i d found = (there space hs i d (get_or hs i d) found refl).old
+
+pub is_there : (space : ℕ) (hs : List Holding) (i : ℕ) (d : Holding) → position (is_of space) hs ≡ Some i → (i < length hs) × ((get_or hs i d).space ≡ space)
+is_there space hs i d found = let p = position-Some (is_of space) hs i d found in (p.0, eqb_eq (get_or hs i d).space space p.1)
+
+-- without the list at a place those of other spaces are there still
+pub without_place : (hs : List Holding) (i : ℕ) (d : Holding) (s : ℕ) → i < length hs → eqb (get_or hs i d).space s ≡ false → listed_in (take i hs ++ drop (suc i) hs) s ≡ listed_in hs s
+without_place [] i d s lt ne = absurd (omega arith)
+without_place (x ∷ hs) zero d s lt ne = rw ne refl
+without_place (x ∷ hs) (suc i) d s lt ne = at (eqb x.space s) refl (without_place hs i d s (omega arith) ne) where
+  at : (b : Bool) → eqb x.space s ≡ b → listed_in (take i hs ++ drop (suc i) hs) s ≡ listed_in hs s → listed_in (x ∷ (take i hs ++ drop (suc i) hs)) s ≡ listed_in (x ∷ hs) s
+  at true e rest = rw e refl
+  at false e rest = rw e rest
 
 -- no place, no list
 pub none_listed : (space : ℕ) (hs : List Holding) → position (is_of space) hs ≡ None → listed_in hs space ≡ None
@@ -130,6 +155,10 @@ only_listed h s n is = at (eqb h.space s) refl where
 
 -- ---- space by space
 
+pub alike : (f g : Row → Option Row) (rows : List Row) → ((r : Row) → f r ≡ g r) → filter_map f rows ≡ filter_map g rows
+alike f g [] same = refl
+alike f g (r ∷ rows) same = rw (same r) (ap (cons_option (g r)) (alike f g rows same))
+
 module _ (gone : Row → Bool) (changed : Row → Row) where
   -- the rows of one space are revised
   abbrev pub revised_in : ℕ → Row → Option Row
@@ -152,8 +181,7 @@ module _ (gone : Row → Bool) (changed : Row → Row) where
     at false = refl
 
   pub all_local : (space : ℕ) (rows : List Row) → filter_map (revised_by (λ (r : Row). eqb r.space space && gone r) (λ (r : Row). cond (eqb r.space space) (changed r) r)) rows ≡ filter_map (revised_in space) rows
-  all_local space [] = refl
-  all_local space (r ∷ rows) = rw (local_is space r) (ap (cons_option (revised_in space r)) (all_local space rows))
+  all_local space rows = alike (revised_by (λ (r : Row). eqb r.space space && gone r) (λ (r : Row). cond (eqb r.space space) (changed r) r)) (revised_in space) rows (local_is space)
 
   pub local_named : (space : ℕ) (ns : List ℕ) (rows : List Row) → AllByRecursion (λ (r : Row). eqb r.space space ≡ true → contains ns r.number ≡ false → revised_by gone changed r ≡ Some r) rows
       → AllByRecursion (λ (r : Row). contains ns r.number ≡ false → revised_by (λ (r : Row). eqb r.space space && gone r) (λ (r : Row). cond (eqb r.space space) (changed r) r) r ≡ Some r) rows

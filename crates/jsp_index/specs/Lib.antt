@@ -9,3 +9,4 @@ pub mod Changing
 pub mod Counted
 pub mod Beside
 pub mod Own
+pub mod Ending

@@ -1,7 +1,7 @@
 //! What is asked of a row, as tests.
 ghost use Rattle.std.specs.Prelude.{◌≡◌, ◌==◌, ◌&&◌, ◌||◌, not};
 ghost use Rattle.jsp_model.specs.Lookup.{contains as has, is_caller as calls};
-ghost use Rattle.jsp_sight.specs.Rows.{offered, held, shows};
+ghost use Rattle.jsp_sight.specs.Rows.{offered, held, shows, is_held};
 ghost use Rattle.jsp_index.specs.Own.{is_within as is_within_of};
 
 use crate::starts::Unseen;
@@ -220,6 +220,28 @@ impl Test<Row> for ChangedBy {
         let x = self.transaction;
         row.space == self.space && (is_caller(row.writer, x) || is_caller(row.taker, x))
     }
+}
+
+/// Whether a transaction wrote, took or read the row in a space.
+#[derive(Drop)]
+pub(crate) struct HeldBy {
+    pub(crate) transaction: u64,
+    pub(crate) space: u64,
+}
+
+impl Test<Row> for HeldBy {
+    ghost is_passed = { λ s r. r.space == s.space && is_held s.transaction r };
+
+    fn passes(&self, row: &Row) -> bool {
+        let x = self.transaction;
+        row.space == self.space && (is_changer(row, x) || contains(row.readers.as_slice(), x))
+    }
+}
+
+fn is_changer(row: &Row, x: u64) -> bool
+    ensures { result ≡ (calls row.now.writer x || calls row.now.taker x) }
+{
+    is_caller(row.writer, x) || is_caller(row.taker, x)
 }
 
 /// Whether a transaction wrote the row and didn't take it.

@@ -1,8 +1,9 @@
 //! What is found among rows by hints. Only what answers in lists takes memory.
 ghost use Rattle.std.specs.Prelude.{◌≡◌, ◌==◌, ◌&&◌, ◌||◌, ℕ, true, not, map, filter, find, option_copied, take, length, slice_get, List, Bool, None, if◌then◌else◌, IfOk};
 ghost use Rattle.std.specs.List.{list_any, list_all, last_or};
-ghost use Rattle.std.specs.Fn.{FnReturnsAt};
 ghost use Rattle.jsp_lease.specs.Due.{first_item, over_by};
+ghost use Rattle.jsp_table.specs.Places.{living};
+ghost use Rattle.jsp_index.specs.Numbered.{AreNumbered};
 ghost use Rattle.jsp_model.specs.declared.state.Row.{Row as OfRow};
 ghost use Rattle.jsp_model.specs.Lookup.{contains as has, is_caller as calls};
 ghost use Rattle.jsp_model.specs.Changes.{published};
@@ -18,7 +19,8 @@ use crate::starts::Unseen;
 use crate::walking::{Sought, entries_found, numbers_found, walk};
 use crate::{HintedRows, NoMemory};
 use jsp_model::{Blocked, Item, MatchSet, Row};
-use jsp_sight::{is_available, is_take};
+use jsp_sight::is_take;
+use jsp_table::Test;
 use jsp_types::{Classes, Entry, Items};
 use std::alloc::Global;
 
@@ -37,13 +39,6 @@ impl HintedRows {
         self.rows.get(number)
     }
 
-    /// Whether a row has this number.
-    pub fn has(&self, number: u64) -> bool
-        ensures { result ≡ list_any (λ r. r.number == number) self.now }
-    {
-        self.rows.get(number).is_some()
-    }
-
     /// The row whose end has come and comes first, as an item.
     pub fn due(&self, time: u64) -> Option<Item>
         ensures { result ≡ first_item (over_by time (map row_end self.now)) }
@@ -51,27 +46,11 @@ impl HintedRows {
         self.rows.keyed().due(time)
     }
 
-    /// Whether a row of this number passes a test of the caller's.
-    pub fn any_of<F: Fn(&Row) -> bool>(&self, number: u64, test: F) -> bool
-        requires { F.IsAlwaysCallable test }
-        ensures { (p : OfRow → Bool) → ((r : OfRow) (b : Bool) → FnReturnsAt F.Fn test r b → b ≡ p r) → result ≡ list_any (λ r. r.number == number && p r) self.now }
+    /// The same of those that pass a test. Each row is looked at.
+    pub fn due_of<P: Test<Row>>(&self, time: u64, test: &P) -> Option<Item>
+        ensures { result ≡ first_item (over_by time (map row_end (filter (P.is_passed test.now) self.now))) }
     {
-        match self.rows.get(number) {
-            None => false,
-            Some(row) => test(row),
-        }
-    }
-
-    /// The spaces of the rows of this number.
-    pub fn spaces_of(&self, alloc: Global, number: u64) -> Result<Vec<u64>, NoMemory>
-        ensures { IfOk result (λ v. v.items ≡ map (λ r. r.space) (filter (λ r. r.number == number) self.now)) }
-    {
-        let mut spaces = Vec::new(alloc);
-        let Some(row) = self.rows.get(number) else {
-            return Ok(spaces);
-        };
-        spaces.push(row.space)?;
-        Ok(spaces)
+        self.rows.keyed().due_of(time, test)
     }
 
     /// The row that the request may be given whose number is the least.
@@ -130,16 +109,6 @@ impl HintedRows {
         let sought = sought_by(classes, blocked);
         let test = Offered { classes, blocked };
         walk(self, &sought, 0, &test, most).count
-    }
-
-    /// Whether the row of this number may be given to the request.
-    pub fn may_be_given(&self, classes: &Classes, blocked: &Blocked, number: u64) -> bool
-        ensures { result ≡ has (offered_among classes.now blocked.now self.now) number }
-    {
-        match self.rows.get(number) {
-            None => false,
-            Some(row) => is_available(classes, blocked, row),
-        }
     }
 
     /// The entries of the first rows that a match set may still show, so many.
@@ -222,6 +191,14 @@ impl HintedRows {
         let named = named_by(alloc, numbers)?;
         let entries = entries_named(alloc, self.rows.keyed(), &named, &OneOf { numbers })?;
         Ok(entries)
+    }
+
+    /// The places of the rows in their order, some of which are empty. Only for what goes over all rows.
+    pub fn places(&self) -> &[Option<Row>]
+        ensures rows { living result.now ≡ self.now }
+        ensures numbered { AreNumbered self.now }
+    {
+        self.rows.places()
     }
 
     /// Copies of all rows. Only for what goes over all of them.

@@ -3,16 +3,18 @@
 //!
 //! The fields are private. What there is to do with rows is a call: to append, to leave some out, to
 //! change some in place are here. Only appending, reading and taking takes memory.
-ghost use Rattle.std.specs.Prelude.{◌≡◌, ◌==◌, ◌++◌, ◌∷◌, [], not, map, filter, OnOk, OnErr};
+ghost use Rattle.std.specs.Prelude.{◌≡◌, ◌==◌, ◌&&◌, ◌++◌, ◌∷◌, [], not, map, filter, OnOk, OnErr};
+ghost use Rattle.std.specs.List.{list_any};
 ghost use Rattle.std.specs.Bool.{OnTrue};
 ghost use Rattle.jsp_model.specs.Lookup.{update, contains as has};
-ghost use Rattle.jsp_model.specs.Changes.{aborted, committed, release as released};
-ghost use Rattle.jsp_sight.specs.Rows.{row_ending, with_reader, taken_row};
+ghost use Rattle.jsp_model.specs.Changes.{aborted, committed, release as released, is_not_changed as leaves_unread};
+ghost use Rattle.jsp_sight.specs.Rows.{row_ending, with_reader, taken_row, is_held};
 ghost use Rattle.jsp_index.specs.Numbered.{AreNumbered};
 
 use crate::NoMemory;
+use crate::asking::HeldBy;
 use crate::changing::{Abort, Commit, Release};
-use crate::holding::{Holders, hold_all, hold_number, hold_numbers, listed};
+use crate::holding::{Holders, hold_all, hold_number, hold_numbers, listed, take_list};
 use crate::keyed::KeyedRows;
 use crate::revising::{remove_all, revise_all, revise_holdings, take_all};
 use jsp_model::{Row, Vote};
@@ -142,6 +144,42 @@ impl HintedRows {
     pub fn release(&mut self, vote: Vote, x: u64, space: u64)
         ensures { self.new ≡ released vote x space self.old }
     {
+        self.unread(vote, x, space);
+        self.forget_if_none(x, space);
+    }
+
+    /// The transaction has no list in the space any more, if it holds no row there.
+    fn forget_if_none(&mut self, x: u64, space: u64)
+        ensures { self.new ≡ self.old }
+    {
+        if !self.holds_some(x, space) {
+            let _ = take_list(&mut self.holders, x, space);
+        }
+    }
+
+    /// Whether the transaction holds a row of the space.
+    fn holds_some(&self, x: u64, space: u64) -> bool
+        ensures { result ≡ list_any (λ r. r.space == space && is_held x r) self.now }
+    {
+        let rows = self.rows.keyed();
+        // Which says that no number is 0.
+        let _ = rows.places();
+        let Some(numbers) = listed(&self.holders, x, space) else {
+            return false;
+        };
+        let test = HeldBy {
+            transaction: x,
+            space,
+        };
+        rows.first_named(numbers, 0, &test).is_some()
+    }
+
+    fn unread(&mut self, vote: Vote, x: u64, space: u64)
+        ensures { self.new ≡ released vote x space self.old }
+    {
+        if !is_not_changed(vote) {
+            return;
+        }
         let Some(numbers) = listed(&self.holders, x, space) else {
             return;
         };
@@ -182,4 +220,10 @@ impl HintedRows {
         self.rows.read(number, x)?;
         Ok(())
     }
+}
+
+fn is_not_changed(vote: Vote) -> bool
+    ensures { result ≡ leaves_unread vote }
+{
+    matches!(vote, Vote::NotChanged)
 }

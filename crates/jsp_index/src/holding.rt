@@ -1,5 +1,6 @@
 //! Rows listed, by space, for the transactions that wrote, took or read them.
-ghost use Rattle.std.specs.Prelude.{◌≡◌, ℕ, true, None, position, ◌==◌, option_copied, OnOk, IfOk};
+ghost use Rattle.std.specs.Prelude.{◌≡◌, ◌≢◌, ◌&&◌, ℕ, true, false, None, position, ◌==◌, option_copied, option_map, OnOk, IfOk, IfSome};
+ghost use Rattle.std.specs.Bool.{OnTrue};
 ghost use Rattle.std.specs.List.{AllByRecursion};
 ghost use Rattle.jsp_model.specs.declared.state.Row.{Row as OfRow};
 ghost use Rattle.jsp_model.specs.Lookup.{contains as has, is_caller as calls};
@@ -42,6 +43,22 @@ fn listed_in(holdings: &[Holding], space: u64) -> Option<&Numbers>
     match holdings.iter().find(|h| h.space == space) {
         None => None,
         Some(holding) => Some(&holding.numbers),
+    }
+}
+
+/// The first of the rows that are listed for a transaction in a space, if there is one.
+pub(crate) fn first_listed(holders: &Holders, x: u64, space: u64) -> Option<u64> {
+    match listed(holders, x, space) {
+        None => None,
+        Some(numbers) => numbers.next_above(0),
+    }
+}
+
+/// Whether more are listed than so many.
+pub(crate) fn is_longer(holders: &Holders, x: u64, space: u64, most: usize) -> bool {
+    match listed(holders, x, space) {
+        None => false,
+        Some(numbers) => most < numbers.len(),
     }
 }
 
@@ -225,4 +242,80 @@ fn begin_list(
     numbers.add(number)?;
     holdings.push(Holding { space, numbers })?;
     Ok(())
+}
+
+/// Lists a number for a transaction in a space no more. Takes no memory.
+pub(crate) fn unlist(holders: &mut Holders, x: u64, space: u64, number: u64)
+    ensures { (y s n : ℕ) → (y == x && s == space && n == number) ≡ false → lists holders.old y s n ≡ true → lists holders.new y s n ≡ true }
+{
+    if let Some(holdings) = holders.get_mut(&x) {
+        unlist_in(&mut holdings.items, space, number);
+    }
+}
+
+fn unlist_in(holdings: &mut Vec<Holding>, space: u64, number: u64)
+    ensures { (s n : ℕ) → (s == space && n == number) ≡ false → is_in (listed_among holdings.old.items s) n ≡ true → is_in (listed_among holdings.new.items s) n ≡ true }
+{
+    if let Some(place) = place_of(holdings, space) {
+        remove_from(&mut holdings[place], number);
+    }
+}
+
+/// Takes a number out of a list.
+fn remove_from(holding: &mut Holding, number: u64)
+    ensures keeps { (n : ℕ) → n ≢ number → contains holding.old.numbers n ≡ true → contains holding.new.numbers n ≡ true }
+    ensures space { holding.new.space ≡ holding.old.space }
+{
+    holding.numbers.remove(number);
+}
+
+/// Takes the list of a transaction in a space off, if there is one. Takes no memory.
+pub(crate) fn take_list(holders: &mut Holders, x: u64, space: u64) -> Option<Holding>
+    ensures taken { option_map (λ h. h.numbers) result ≡ listed_for holders.old x space }
+    ensures space { IfSome result (λ h. h.space ≡ space) }
+    ensures others { (y s n : ℕ) → (y == x && s == space) ≡ false → lists holders.old y s n ≡ true → lists holders.new y s n ≡ true }
+{
+    let taken = take_of(holders, x, space);
+    drop_empty(holders, x);
+    taken
+}
+
+fn take_of(holders: &mut Holders, x: u64, space: u64) -> Option<Holding>
+    ensures taken { option_map (λ h. h.numbers) result ≡ listed_for holders.old x space }
+    ensures space { IfSome result (λ h. h.space ≡ space) }
+    ensures others { (y s n : ℕ) → (y == x && s == space) ≡ false → lists holders.old y s n ≡ true → lists holders.new y s n ≡ true }
+{
+    match holders.get_mut(&x) {
+        None => None,
+        Some(holdings) => take_in(&mut holdings.items, space),
+    }
+}
+
+fn take_in(holdings: &mut Vec<Holding>, space: u64) -> Option<Holding>
+    ensures taken { option_map (λ h. h.numbers) result ≡ listed_among holdings.old.items space }
+    ensures space { IfSome result (λ h. h.space ≡ space) }
+    ensures others { (s n : ℕ) → (s == space) ≡ false → is_in (listed_among holdings.old.items s) n ≡ true → is_in (listed_among holdings.new.items s) n ≡ true }
+{
+    match place_of(holdings, space) {
+        None => None,
+        Some(place) => Some(holdings.remove(place)),
+    }
+}
+
+/// Forgets a transaction that has no list.
+fn drop_empty(holders: &mut Holders, x: u64)
+    ensures { Keeps holders.old holders.new }
+{
+    if has_no_list(holders, x) {
+        holders.remove(&x);
+    }
+}
+
+fn has_no_list(holders: &Holders, x: u64) -> bool
+    ensures { OnTrue result ((s n : ℕ) → lists holders.now x s n ≡ false) }
+{
+    match holders.get(&x) {
+        None => true,
+        Some(holdings) => holdings.as_slice().is_empty(),
+    }
 }

@@ -16,6 +16,7 @@ mod by_number;
 mod changing;
 mod choosing;
 mod counting;
+mod deciding;
 mod finding;
 mod hinted;
 mod holding;

@@ -15,7 +15,7 @@ use jsp_model::Row;
 use jsp_table::{Change, Numbers};
 
 /// Revises the row of a number.
-fn revise<R: Revision + Change<Row>>(rows: &mut KeyedRows, number: u64, revision: &R)
+pub(crate) fn revise<R: Revision + Change<Row>>(rows: &mut KeyedRows, number: u64, revision: &R)
     requires { (r : OfRow) → HasSameKeys r (R.changed revision.now r) }
     ensures { rows.new ≡ filter_map (λ r. if r.number == number then revised_by (R.is_gone revision.now) (R.changed revision.now) r else Some r) rows.old }
 {
@@ -67,7 +67,11 @@ pub(crate) fn revise_holdings<R: Revision + Change<Row>>(
 }
 
 /// Revises the rows of a space that are listed, where a revision leaves its others as they are.
-fn revise_space<R: Revision + Change<Row>>(rows: &mut KeyedRows, holding: &Holding, revision: &R)
+pub(crate) fn revise_space<R: Revision + Change<Row>>(
+    rows: &mut KeyedRows,
+    holding: &Holding,
+    revision: &R,
+)
     requires keys { (r : OfRow) → HasSameKeys r (R.changed revision.now r) }
     requires listed { AllByRecursion (λ (r : OfRow). (r.space == holding.now.space) ≡ true → contains holding.now.numbers r.number ≡ false → revised_by (R.is_gone revision.now) (R.changed revision.now) r ≡ Some r) rows.old }
     ensures { rows.new ≡ filter_map (λ r. if r.space == holding.now.space then revised_by (R.is_gone revision.now) (R.changed revision.now) r else Some r) rows.old }

@@ -136,10 +136,9 @@ fn still_names(state: &Core, earlier: &[i64], number: u64) -> bool
 fn is_row_left(state: &Core, earlier: &[i64], number: u64) -> bool
     ensures { result ≡ list_any (λ r. r.number == number && not (ended state.now earlier.now r.number r.writer)) state.now.rows }
 {
-    state.rows.any_of(
-        number,
-        |row| !is_ended(state, earlier, row.number, row.writer),
-    )
+    state
+        .rows
+        .is_written(number, |writer| !is_ended(state, earlier, number, writer))
 }
 
 fn is_registration_left(state: &Core, earlier: &[i64], number: u64) -> bool

@@ -1,5 +1,5 @@
 -- Why a script isn't run and printed whole, and what is told of it.
-use Rattle.std.specs.Prelude.{ℕ, ◌≡◌, ◌<◌, ◌≤◌, ◌^◌, Bool, true, false, List, [], ◌∷◌, ◌++◌, ⊤, IfSome, IsTrue, codes, decimal, length}
+use Rattle.std.specs.Prelude.{ℕ, ◌≡◌, ◌<◌, ◌≤◌, ◌^◌, Bool, true, false, List, [], ◌∷◌, ◌++◌, ⊤, IfSome, codes, decimal, length}
 use Rattle.std.specs.Io.KnownBytes.{Appends, Keeps}
 use Rattle.std.specs.declared.option.Option.{Option}
 use Rattle.jsp_serve.specs.declared.fault.ScriptFault.{ScriptFault}

@@ -55,7 +55,8 @@ pub fn is_in_conflict(classes: &Classes, blocked: &Blocked, row: &Row) -> bool
     wants(classes, blocked, row) && conflicts(is_take(blocked.form), blocked.transaction, row)
 }
 
-fn wants(classes: &Classes, blocked: &Blocked, row: &Row) -> bool
+/// Whether the row is in the request's space and one of its templates matches it.
+pub fn wants(classes: &Classes, blocked: &Blocked, row: &Row) -> bool
     ensures { result ≡ wanted classes.now blocked.now row.now }
 {
     row.space == blocked.space && matches_one(classes, blocked.templates.as_slice(), row)
@@ -105,7 +106,7 @@ fn is_read_by_none_else(caller: Option<u64>, readers: &[u64]) -> bool
 }
 
 /// Whether a mark is nobody's, or the caller's own.
-fn is_free(caller: Option<u64>, holder: Option<u64>) -> bool
+pub fn is_free(caller: Option<u64>, holder: Option<u64>) -> bool
     ensures { result ≡ frees caller holder }
 {
     match holder {

@@ -4,3 +4,4 @@ pub mod Soonest
 pub mod Testing
 pub mod Unsatisfied
 pub mod OnOffer
+pub mod Rising

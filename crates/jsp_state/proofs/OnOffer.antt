@@ -1,6 +1,6 @@
 -- Whoever may be given a row may be given one on offer.
 use Rattle.std.proofs.Common.{◌≡◌, refl, sym, ap, ◌∙◌, ℕ, List, [], ◌∷◌, map, filter, length, Bool, true, false, not, cond, ◌&&◌, ◌||◌, ◌==◌, find, Option, Some, None, true≢false, eq-eqb, eqb-true, nat_lt, ◌<◌, ◌≤◌, subst, arith}
-use Rattle.std.specs.Prelude.{option_map, is_none}
+use Rattle.std.specs.Prelude.{option_map}
 use Rattle.std.specs.List.{list_any, list_all}
 use Rattle.std.specs.Option.{option_map_or}
 use Rattle.std.proofs.lemmas.Bool.{and_parts, and_from, false_from_ne_true, ne_eqb, ltb-true}
@@ -11,7 +11,7 @@ use Rattle.jsp_model.specs.Lookup.{contains}
 use Rattle.jsp_model.specs.Sight.{is_available, available, is_if, has_conflict}
 use Rattle.jsp_model.specs.Quiet.{must_wait}
 use Rattle.jsp_model.specs.Limits.{are_rising}
-use Rattle.jsp_sight.specs.Rows.{wanted}
+use Rattle.jsp_sight.specs.Rows.{wanted, unmarked}
 use Rattle.jsp_wait.specs.Offered.{IsAsked, AskForIt, takes_one, waits_no_more}
 use Rattle.jsp_core.specs.Offering.{are_offered}
 use Rattle.jsp_state.specs.Taking.{may_take}
@@ -132,11 +132,11 @@ no_takers st space h = sym (none_find (λ (b : Blocked). b.space == space) st.bl
 -- ---- by the row of a number
 
 -- a row that a request may be given is one that it wants
-row_asked : (st : State) (b : Blocked) (o : Option Row) → option_map_or (λ r. is_available st b r) o false ≡ true → IsAsked st.classes o b
+row_asked : (st : State) (b : Blocked) (o : Option Row) → option_map_or (λ r. is_available st b r) o false ≡ true → IsAsked st.classes (option_map unmarked o) b
 row_asked st b None h = absurd (true≢false (sym h))
 row_asked st b (Some r) h = (and_parts (wanted st.classes b r) _ h).0
 
-pub ask_for_it : (st : State) → AskForIt st.classes (λ n. find (λ (r : Row). r.number == n) st.rows) (may_take st)
+pub ask_for_it : (st : State) → AskForIt st.classes (λ n. option_map unmarked (find (λ (r : Row). r.number == n) st.rows)) (may_take st)
 ask_for_it st n b h = row_asked st b (find (λ (r : Row). r.number == n) st.rows) h
 
 not_above : (p : Row → Bool) (n low high : ℕ) (rows : List Row) → n ≤ low → are_rising low high (map (λ r. r.number) rows) ≡ true → contains (map (λ r. r.number) (filter p rows)) n ≡ false
@@ -268,12 +268,11 @@ none_takes st (b ∷ bs) e = go (available st b) refl e (none_takes st bs)
     go [] k e ih = rw (passed_numbers (is_available st b) (λ n. false) st.rows (ap (list_all (λ n. false)) k)) (ih e)
     go (n ∷ found) k e ih = let some : Some b ≡ None = rw (not_zero n found) at e in absurd (cc)
 
+pub none_waits : (st : State) → st.blocked ≡ [] → are_offered (Some []) st ≡ true
+none_waits st e = ap (list_all (λ b. list_all (λ r. not (is_available st b r) || false) st.rows)) e
+
 pub none_offered : (st : State) → find (λ b. not (length (available st b) == 0)) st.blocked ≡ None → are_offered (Some []) st ≡ true
 none_offered st e = none_takes st st.blocked e
-
-pub none_found : {A : Type 0} (o : Option A) → is_none o ≡ true → o ≡ None
-none_found None e = refl
-none_found (Some x) e = absurd (cc)
 
 pub none_left : (ns : List ℕ) → (length ns == 0) ≡ true → ns ≡ []
 none_left [] e = refl

@@ -1,17 +1,18 @@
 //! Which of the requests that wait need wait no longer. Only rows on offer are looked at, each by those
 //! that may want it.
-ghost use Rattle.std.specs.Prelude.{◌≡◌, ◌==◌, ◌&&◌, not, map, length, find, option_copied, is_none, IsTrue, Some};
+ghost use Rattle.std.specs.Prelude.{◌≡◌, ◌==◌, ◌&&◌, not, map, length, find, option_copied, option_map, is_none, IsTrue, Some, None, []};
+ghost use Rattle.std.specs.Bool.{OnTrue};
 ghost use Rattle.std.specs.List.{list_any};
 ghost use Rattle.jsp_model.specs.Limits.{are_rising};
 ghost use Rattle.jsp_model.specs.Sight.{available, has_conflict as held_up};
 ghost use Rattle.jsp_model.specs.Quiet.{must_wait as waits};
+ghost use Rattle.jsp_sight.specs.Rows.{unmarked};
 ghost use Rattle.jsp_core.specs.Offering.{are_offered};
 ghost use Rattle.jsp_state.specs.Taking.{may_take as takes_it};
 
 use crate::sight::{Answerable, Grantable, has_conflict};
 use jsp_core::{Core, LiveImage};
 use jsp_model::{Blocked, Row};
-use jsp_sight::is_available;
 use jsp_table::Test;
 use jsp_types::Classes;
 use jsp_wait::Offer;
@@ -68,7 +69,7 @@ struct RowsOf<'a> {
 impl<'a> Offer for RowsOf<'a> {
     ghost classes_of = { λ o. o.state.now.classes };
 
-    ghost row_of = { λ o n. find (λ r. r.number == n) o.state.now.rows };
+    ghost row_of = { λ o n. option_map unmarked (find (λ r. r.number == n) o.state.now.rows) };
 
     ghost is_taker = { λ o n b. takes_it o.state.now n b };
 
@@ -93,7 +94,7 @@ impl<'a> Offer for RowsOf<'a> {
 }
 
 fn row_of(state: &Core, number: u64) -> Option<&Row>
-    ensures { option_copied result ≡ find (λ r. r.number == number) state.now.rows }
+    ensures { option_map unmarked (option_copied result) ≡ option_map unmarked (find (λ r. r.number == number) state.now.rows) }
 {
     state.rows.get(number)
 }
@@ -101,10 +102,7 @@ fn row_of(state: &Core, number: u64) -> Option<&Row>
 fn may_take(state: &Core, number: u64, request: &Blocked) -> bool
     ensures { result ≡ takes_it state.now number request.now }
 {
-    match state.rows.get(number) {
-        None => false,
-        Some(row) => is_available(&state.classes, request, row),
-    }
+    state.rows.is_available(&state.classes, request, number)
 }
 
 /// Whether a row may be given to a request that waits.
@@ -131,7 +129,9 @@ fn is_wanted(state: &Core, number: u64) -> bool
 pub fn withdraw(image: &mut LiveImage)
     ensures { image.new ≡ image.old }
 {
-    if image.offers.numbers().is_some() {
+    if nobody_waits(&image.state) {
+        image.offers.close();
+    } else if image.offers.numbers().is_some() {
         image.offers.keep(&Wanted {
             state: &image.state,
         });
@@ -140,7 +140,22 @@ pub fn withdraw(image: &mut LiveImage)
     }
 }
 
+/// Whether it is seen at once that nobody waits.
+fn nobody_waits(state: &Core) -> bool
+    ensures { OnTrue result (state.now.blocked ≡ []) }
+{
+    state.blocked.is_known_empty()
+}
+
+/// Whether it is seen that no row may be given to a request that waits. Where a space has decisions to
+/// apply nobody looks: each row would be looked at for each request.
 fn is_nothing_wanted(state: &Core) -> bool
+    ensures { OnTrue result (find (λ b. not (length (available state.now b) == 0)) state.now.blocked ≡ None) }
+{
+    !state.rows.has_pending() && no_row_is_wanted(state)
+}
+
+fn no_row_is_wanted(state: &Core) -> bool
     ensures { result ≡ is_none (find (λ b. not (length (available state.now b) == 0)) state.now.blocked) }
 {
     state.blocked.first(&Grantable { state }).is_none()

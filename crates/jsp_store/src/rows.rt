@@ -1,17 +1,18 @@
 //! The rows of all spaces. Contracts see them as a list, in the order in which they were written.
-ghost use Rattle.std.specs.Prelude.{◌≡◌, ◌≤◌, ◌==◌, ◌&&◌, ◌||◌, ◌++◌, ◌∷◌, [], not, nat_le, nat_lt, map, filter, find, option_copied, fold, min, take, length, reverse, position, Bool, None, IfOk, OnOk, OnErr, IsTrue};
+ghost use Rattle.std.specs.Prelude.{◌≡◌, ◌≤◌, ◌==◌, ◌&&◌, ◌||◌, ◌++◌, ◌∷◌, [], not, nat_le, nat_lt, map, filter, find, option_copied, option_map, fold, min, take, length, reverse, position, ℕ, false, Bool, Option, None, IfOk, OnOk, OnErr, IsTrue};
 ghost use Rattle.std.specs.List.{list_any, list_all, last_or};
-ghost use Rattle.std.specs.Fn.{FnReturnsAt};
+ghost use Rattle.std.specs.Fn.{FnReturns};
+ghost use Rattle.std.specs.Option.{option_map_or};
 ghost use Rattle.jsp_lease.specs.Due.{first_item, over_by};
-ghost use Rattle.jsp_model.specs.declared.state.Row.{Row as OfRow};
+ghost use Rattle.jsp_sight.specs.Rows.{unmarked};
 ghost use Rattle.jsp_model.specs.Lookup.{update, contains as has, is_caller as calls};
 ghost use Rattle.jsp_model.specs.Limits.{are_rising};
 ghost use Rattle.jsp_model.specs.Changes.{aborted, committed, published as publishes, release as released};
 ghost use Rattle.jsp_sight.specs.Rows.{offered, offered_among, held, entries_among, shows, shown_among, earlier as earlier_of, row_end, row_ending, with_reader, taken_row, settled, undone, released_row, is_of, is_held};
 
-use crate::scanned::ScannedRows;
-use jsp_index::HintedRows;
+use jsp_decided::DecidedRows;
 use jsp_model::{Blocked, Item, MatchSet, Row, Vote};
+use jsp_scan::ScannedRows;
 use jsp_types::{Classes, Entry, Items, NoMemory};
 use std::alloc::Global;
 use std::marker::Model;
@@ -35,7 +36,7 @@ pub struct Rows {
 #[derive(Drop)]
 enum Kept {
     Scanned(ScannedRows),
-    Hinted(HintedRows),
+    Hinted(DecidedRows),
 }
 
 impl Model for Rows {
@@ -55,7 +56,7 @@ impl Rows {
     {
         let kept = match keeping {
             Keeping::Scanned => Kept::Scanned(ScannedRows::new(alloc)),
-            Keeping::Hinted { seed } => Kept::Hinted(HintedRows::new(alloc, seed)),
+            Keeping::Hinted { seed } => Kept::Hinted(DecidedRows::new(alloc, seed)),
         };
         Rows { alloc, kept }
     }
@@ -135,9 +136,11 @@ impl Rows {
         }
     }
 
-    // ---- leave out and change. Nothing here takes memory.
+    // ---- leave out and change. Only to record a decision takes memory, and none is needed: where it is
+    // refused, the decision is applied at once.
 
-    /// The transaction aborts: the rows that it wrote go, and so do its marks.
+    /// The transaction aborts: the rows that it wrote go, and so do its marks. Rows that are found by
+    /// hints follow when their space applies it.
     pub fn abort(&mut self, x: u64)
         ensures { self.new ≡ aborted x self.old }
     {
@@ -147,13 +150,74 @@ impl Rows {
         }
     }
 
-    /// The transaction commits: the rows that it took go, and so do its marks.
+    /// The transaction commits: the rows that it took go, and so do its marks. Rows that are found by
+    /// hints follow when their space applies it.
     pub fn commit(&mut self, x: u64)
         ensures { self.new ≡ committed x self.old }
     {
         match &mut self.kept {
             Kept::Scanned(rows) => rows.commit(x),
             Kept::Hinted(rows) => rows.commit(x),
+        }
+    }
+
+    // ---- what is decided is applied. Nothing here takes memory.
+
+    /// How many decisions the space hasn't applied.
+    pub fn pending(&self, space: u64) -> usize {
+        match &self.kept {
+            Kept::Scanned(_) => 0,
+            Kept::Hinted(rows) => rows.pending(space),
+        }
+    }
+
+    /// Whether any space has one that it hasn't applied.
+    pub fn has_pending(&self) -> bool {
+        match &self.kept {
+            Kept::Scanned(_) => false,
+            Kept::Hinted(rows) => rows.has_pending(),
+        }
+    }
+
+    /// The space applies all decisions that it hasn't applied, which none of the other calls can tell.
+    pub fn apply_in(&mut self, space: u64)
+        ensures { self.new ≡ self.old }
+    {
+        match &mut self.kept {
+            Kept::Scanned(_) => {}
+            Kept::Hinted(rows) => rows.apply_in(space),
+        }
+    }
+
+    /// The space applies the first of them, to so many of its rows at most. Whether nothing is left of
+    /// it; else further calls go on.
+    pub fn apply_some(&mut self, space: u64, most: usize) -> bool
+        ensures { self.new ≡ self.old }
+    {
+        match &mut self.kept {
+            Kept::Scanned(_) => true,
+            Kept::Hinted(rows) => rows.apply_some(space, most),
+        }
+    }
+
+    /// Where rows end that are about to be changed by decisions, their spaces apply them, so that what
+    /// is due is found without a look at all rows.
+    pub fn apply_due(&mut self, time: u64)
+        ensures { self.new ≡ self.old }
+    {
+        match &mut self.kept {
+            Kept::Scanned(_) => {}
+            Kept::Hinted(rows) => rows.apply_due(time),
+        }
+    }
+
+    /// All spaces apply what they haven't.
+    pub fn apply_all(&mut self)
+        ensures { self.new ≡ self.old }
+    {
+        match &mut self.kept {
+            Kept::Scanned(_) => {}
+            Kept::Hinted(rows) => rows.apply_all(),
         }
     }
 
@@ -204,9 +268,9 @@ impl Rows {
 
     // ---- find
 
-    /// The row of this number.
+    /// The row of this number, but its marks may be older.
     pub fn get(&self, number: u64) -> Option<&Row>
-        ensures { option_copied result ≡ find (λ r. r.number == number) self.now }
+        ensures { option_map unmarked (option_copied result) ≡ option_map unmarked (find (λ r. r.number == number) self.now) }
     {
         match &self.kept {
             Kept::Scanned(rows) => rows.get(number),
@@ -275,14 +339,14 @@ impl Rows {
         }
     }
 
-    /// Whether a row of this number passes a test of the caller's.
-    pub fn any_of<F: Fn(&Row) -> bool>(&self, number: u64, test: F) -> bool
+    /// Whether a row has this number, and a test passes who wrote it.
+    pub fn is_written<F: Fn(Option<u64>) -> bool>(&self, number: u64, test: F) -> bool
         requires { F.IsAlwaysCallable test }
-        ensures { (p : OfRow → Bool) → ((r : OfRow) (b : Bool) → FnReturnsAt F.Fn test r b → b ≡ p r) → result ≡ list_any (λ r. r.number == number && p r) self.now }
+        ensures { (p : Option ℕ → Bool) → ((x : Option ℕ) (b : Bool) → FnReturns F.Fn test (x, tt) b → b ≡ p x) → result ≡ list_any (λ r. r.number == number && p r.writer) self.now }
     {
         match &self.kept {
-            Kept::Scanned(rows) => rows.any_of(number, test),
-            Kept::Hinted(rows) => rows.any_of(number, test),
+            Kept::Scanned(rows) => rows.is_written(number, test),
+            Kept::Hinted(rows) => rows.is_written(number, test),
         }
     }
 
@@ -347,7 +411,17 @@ impl Rows {
     {
         match &self.kept {
             Kept::Scanned(rows) => rows.count_choice(classes, blocked),
-            Kept::Hinted(rows) => rows.count_available(classes, blocked, blocked.most as usize),
+            Kept::Hinted(rows) => rows.count_choice(classes, blocked),
+        }
+    }
+
+    /// Whether the row of this number is available to the request.
+    pub fn is_available(&self, classes: &Classes, blocked: &Blocked, number: u64) -> bool
+        ensures { result ≡ option_map_or (offered classes.now blocked.now) (find (λ r. r.number == number) self.now) false }
+    {
+        match &self.kept {
+            Kept::Scanned(rows) => rows.is_available(classes, blocked, number),
+            Kept::Hinted(rows) => rows.is_available(classes, blocked, number),
         }
     }
 
@@ -383,7 +457,7 @@ impl Rows {
     {
         match &self.kept {
             Kept::Scanned(rows) => rows.shows_more(classes, set, most),
-            Kept::Hinted(rows) => shows_more(rows, classes, set, most),
+            Kept::Hinted(rows) => rows.shows_more(classes, set, most),
         }
     }
 
@@ -396,13 +470,4 @@ impl Rows {
             Kept::Hinted(rows) => rows.last_shown(classes, set, most),
         }
     }
-}
-
-fn shows_more(rows: &HintedRows, classes: &Classes, set: &MatchSet, most: usize) -> bool
-    ensures { result ≡ nat_lt most (length (filter (shows classes.now set.now) rows.now)) }
-{
-    if rows.count_in(set.space) <= most {
-        return false;
-    }
-    most < rows.count_shown(classes, set, most + 1)
 }

@@ -31,7 +31,7 @@ pub fn ask_commit(state: &mut Core, session: u64, id: u64, x: u64) -> Result<(),
 /// The transaction ends with its changes, in all spaces at once (Jini Transactions): the rows that
 /// it took go, those that it wrote become everyone's, its read marks go, and all else that it has.
 /// The registrations that stay are owed the rows that become everyone's. Only what they are owed
-/// takes memory.
+/// needs memory: where there is none to record what becomes of the rows, it is done at once.
 ///
 /// # Errors
 ///

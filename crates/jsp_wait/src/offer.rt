@@ -1,8 +1,9 @@
 //! Rows on offer, and who may be given one.
-ghost use Rattle.std.specs.Prelude.{◌≡◌, ℕ, Bool, List, Option, option_copied};
+ghost use Rattle.std.specs.Prelude.{◌≡◌, ℕ, Bool, List, Option, option_copied, option_map};
 ghost use Rattle.jsp_types.specs.declared.class.Class.{Class as OfClass};
 ghost use Rattle.jsp_model.specs.declared.state.Row.{Row as OfRow};
 ghost use Rattle.jsp_model.specs.declared.state.Blocked.{Blocked as OfBlocked};
+ghost use Rattle.jsp_sight.specs.Rows.{unmarked};
 
 use jsp_model::{Blocked, Row};
 use jsp_types::Classes;
@@ -21,9 +22,9 @@ pub trait Offer {
     fn classes(&self) -> &Classes
         ensures { result.now ≡ classes_of self.now };
 
-    /// The row of a number.
+    /// The row of a number, whose marks may be older.
     fn row(&self, number: u64) -> Option<&Row>
-        ensures { option_copied result ≡ row_of self.now number };
+        ensures { option_map unmarked (option_copied result) ≡ row_of self.now number };
 
     /// Whether a request may be given the row of a number.
     fn takes(&self, number: u64, request: &Blocked) -> bool

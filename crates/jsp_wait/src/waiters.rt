@@ -1,5 +1,6 @@
 //! The requests that wait. Contracts see them as a list, in the order in which they came.
 ghost use Rattle.std.specs.Prelude.{◌≡◌, ◌==◌, ◌&&◌, ◌++◌, ◌∷◌, [], not, map, filter, find, length, is_some, option_copied, nat_le, IfOk, OnOk, OnErr};
+ghost use Rattle.std.specs.Bool.{OnTrue};
 ghost use Rattle.std.specs.List.{list_any};
 ghost use Rattle.jsp_lease.specs.Due.{first_item, over_by};
 ghost use Rattle.jsp_model.specs.Lookup.{is_caller as calls};
@@ -167,6 +168,16 @@ impl Waiters {
     }
 
     // ---- find
+
+    /// Whether none waits, where that is seen at once: it may answer no though none does.
+    pub fn is_known_empty(&self) -> bool
+        ensures { OnTrue result (self.now ≡ []) }
+    {
+        match &self.kept {
+            Kept::Scanned(requests) => requests.is_empty(),
+            Kept::Keyed(requests) => requests.places().is_empty(),
+        }
+    }
 
     /// The request of this number.
     pub fn get(&self, number: u64) -> Option<&Blocked>

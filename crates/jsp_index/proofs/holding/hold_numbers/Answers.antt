@@ -1,4 +1,3 @@
-use Rattle.std.proofs.Common.{true}
 use Rattle.jsp_index.proofs.Holders.{listed_more}
 use Rattle.jsp_index.proofs.holding.hold_numbers.Goals as goal
 

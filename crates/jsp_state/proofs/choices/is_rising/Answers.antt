@@ -1,5 +1,5 @@
 use Rattle.std.proofs.Common.{◌∙◌}
-use Rattle.jsp_store.proofs.Available.{rising_is}
+use Rattle.jsp_state.proofs.Rising.{rising_is}
 use Rattle.jsp_state.proofs.choices.is_rising.Goals as goal
 
 pub returns : goal.returns

@@ -1,5 +1,5 @@
-use Rattle.std.proofs.Common.{◌≡◌, ◌∙◌, ℕ, true, not, List, [], length, map, ap, sym, arith, rules}
-use Rattle.std.specs.Prelude.{filter, ◌==◌}
+use Rattle.std.proofs.Common.{◌≡◌, ◌∙◌, true, not, List, [], length, map, ap, sym, arith, rules}
+use Rattle.std.specs.Prelude.{◌==◌}
 use Rattle.std.proofs.lemmas.Grind.{common_steps}
 use Rattle.jsp_lease.specs.Due.{first_item, over_by}
 use Rattle.jsp_model.specs.declared.state.State.{State}

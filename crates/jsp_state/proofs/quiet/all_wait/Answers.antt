@@ -1,7 +1,5 @@
-use Rattle.std.proofs.Common.{◌≡◌, ◌∙◌, ap, rules}
-use Rattle.std.specs.Prelude.{◌==◌, ◌||◌, not, is_some, option_copied}
-use Rattle.std.specs.List.{list_all}
-use Rattle.jsp_model.specs.declared.state.State.{State}
+use Rattle.std.proofs.Common.{◌≡◌, rules}
+use Rattle.std.specs.Prelude.{◌==◌, not, is_some, option_copied}
 use Rattle.jsp_model.specs.declared.state.Blocked.{Blocked}
 use Rattle.jsp_model.specs.Quiet.{must_wait}
 use Rattle.jsp_state.proofs.Unsatisfied.{none_is}

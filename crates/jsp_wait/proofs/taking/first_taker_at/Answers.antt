@@ -1,4 +1,5 @@
 use Rattle.std.proofs.Common.{◌∙◌, sym}
+use Rattle.jsp_sight.specs.Rows.{unmarked}
 use Rattle.jsp_keyed.proofs.Walking.{start_find}
 use Rattle.jsp_wait.proofs.Seeking.{asked_for}
 use Rattle.jsp_wait.proofs.Least.{number, asked_here, asked_at, not_asked, all_there, none_there}
@@ -16,14 +17,14 @@ returns-then-row-space g c =
     let n = c.args.number in
     let classes = g.O.Offer.classes_of o in
     none_there (g.O.Offer.is_taker o n) c.args.space c.args.requests.now
-    (λ b h e. c.if-row-space.true (asked_at classes b c.in-Some.row.now (asked_here classes (g.O.Offer.row_of o n) c.in-Some.row.now b c.in-Some.ensures (c.requires n b h)) ∙ e))
+    (λ b h e. c.if-row-space.true (asked_at classes b c.in-Some.row.now (asked_here classes (g.O.Offer.row_of o n) (unmarked c.in-Some.row.now) b c.in-Some.ensures (c.requires n b h)) ∙ e))
 
 pub first_above-requires : goal.first_above-requires
 first_above-requires g c = λ seed b h.
     let o = c.args.offer.now in
     let n = c.args.number in
     let classes = g.O.Offer.classes_of o in
-    asked_for seed classes b c.in-Some.row.now (asked_here classes (g.O.Offer.row_of o n) c.in-Some.row.now b c.in-Some.ensures (c.requires n b h))
+    asked_for seed classes b c.in-Some.row.now (asked_here classes (g.O.Offer.row_of o n) (unmarked c.in-Some.row.now) b c.in-Some.ensures (c.requires n b h))
 
 pub returns-else-row-space : goal.returns-else-row-space
 returns-else-row-space g c =
@@ -32,4 +33,4 @@ returns-else-row-space g c =
     let classes = g.O.Offer.classes_of o in
     c.first_above.ensures.found ∙ (start_find number (g.O.Offer.is_taker o n) c.args.requests.now c.first_above.ensures.positive
     ∙ all_there (g.O.Offer.is_taker o n) c.args.space c.args.requests.now
-    (λ b h. sym (asked_at classes b c.in-Some.row.now (asked_here classes (g.O.Offer.row_of o n) c.in-Some.row.now b c.in-Some.ensures (c.requires n b h))) ∙ c.if-row-space.false))
+    (λ b h. sym (asked_at classes b c.in-Some.row.now (asked_here classes (g.O.Offer.row_of o n) (unmarked c.in-Some.row.now) b c.in-Some.ensures (c.requires n b h))) ∙ c.if-row-space.false))

@@ -1,4 +1,5 @@
 use Rattle.std.proofs.Common.{◌∙◌}
+use Rattle.jsp_sight.specs.Rows.{unmarked}
 use Rattle.jsp_keyed.proofs.Walking.{start_find}
 use Rattle.jsp_wait.proofs.Seeking.{asked_for}
 use Rattle.jsp_wait.proofs.Least.{number, asked_here, not_asked, none_passes_at_all}
@@ -9,7 +10,7 @@ first_above-requires g c = λ seed b h.
     let o = c.args.offer.now in
     let n = c.args.number in
     let classes = g.O.Offer.classes_of o in
-    asked_for seed classes b c.in-Some.row.now (asked_here classes (g.O.Offer.row_of o n) c.in-Some.row.now b c.in-Some.ensures (c.requires n b h))
+    asked_for seed classes b c.in-Some.row.now (asked_here classes (g.O.Offer.row_of o n) (unmarked c.in-Some.row.now) b c.in-Some.ensures (c.requires n b h))
 
 pub returns-in-None : goal.returns-in-None
 returns-in-None g c =

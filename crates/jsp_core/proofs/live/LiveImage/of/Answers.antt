@@ -1,4 +1,4 @@
-use Rattle.std.proofs.Common.{◌≡◌, refl, sym, subst, List, [], ◌∷◌, Bool, true, not, ◌||◌, Option, Some, None, ℕ}
+use Rattle.std.proofs.Common.{◌≡◌, sym, subst, true}
 use Rattle.jsp_model.specs.Limits.{IsWithinLimits}
 use Rattle.jsp_core.specs.Offering.{are_offered}
 use Rattle.jsp_core.proofs.Offering.{any_offered}

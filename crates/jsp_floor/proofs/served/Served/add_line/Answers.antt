@@ -3,7 +3,7 @@ use Rattle.std.specs.Prelude.{Option, Vec}
 use Rattle.std.specs.declared.alloc.Global.{Global}
 use Rattle.jsp_closing.specs.declared.closed.LineReport.{LineReport}
 use Rattle.jsp_closing.specs.declared.closed.RunFault.{RunFault}
-use Rattle.jsp_floor.specs.Served.{AddsShort, noted_line, noted_stop}
+use Rattle.jsp_floor.specs.Served.{AddsShort, noted_stop}
 use Rattle.jsp_floor.proofs.served.Served.add_line.Goals as goal
 
 -- what stood before is named otherwise

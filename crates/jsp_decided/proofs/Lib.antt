@@ -1,0 +1,10 @@
+pub mod RowsAfter
+pub mod Ending
+pub mod Sparing
+pub mod Marks
+pub mod Flat
+pub mod Fewer
+pub mod Spaces
+pub mod Numbered
+pub mod Ends
+pub mod Lasts

@@ -1,8 +1,0 @@
-use Rattle.std.proofs.Common.{◌∙◌, ap}
-use Rattle.std.specs.Prelude.{◌==◌, ◌&&◌}
-use Rattle.std.specs.List.{list_any}
-use Rattle.jsp_model.specs.declared.state.Row.{Row as OfRow}
-use Rattle.jsp_store.proofs.scanned.ScannedRows.any_of.Goals as goal
-
-pub returns : goal.returns
-returns g c = λ p h. c.any_of.ensures p h ∙ ap (list_any (λ (r : OfRow). r.number == c.args.number && p r)) (c.deref.ensures.value ∙ c.self.view_is)

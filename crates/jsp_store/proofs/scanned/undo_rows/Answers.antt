@@ -1,7 +1,0 @@
-use Rattle.std.proofs.Common.{rules}
-use Rattle.jsp_model.specs.Changes.{unread}
-use Rattle.jsp_store.proofs.Retaining.{kept_and_changed}
-use Rattle.jsp_store.proofs.scanned.undo_rows.Goals as goal
-
-pub returns : goal.returns
-returns c = kept_and_changed _ _ (unread c.args.x) _ _ (λ r b t y h. search rules) _ _ c.retain_mut.ensures.filtered
