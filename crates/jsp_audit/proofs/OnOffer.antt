@@ -65,7 +65,7 @@ needs_not st b r h e = let some = given_some st b st.rows r h e in rw some refl
 pub record Offered (st : State) (act : Step) (before within after : Option (List ℕ)) : Type 0 where
   pub old : are_offered before st ≡ true
   pub any : frees_any act ≡ true → within ≡ None
-  pub freed : st.blocked ≢ [] → list_all (λ r. not (frees act r) || is_offered within r.number) st.rows ≡ true
+  pub freed : st.blocked ≢ [] → list_all (λ r. not (frees st act r) || is_offered within r.number) st.rows ≡ true
   pub keeps : (n : ℕ) → is_offered before n ≡ true → is_offered within n ≡ true
   pub new : (n : ℕ) → st.next_number ≤ n → n < (next st act).next_number → is_offered after n ≡ true
   pub stays : (n : ℕ) → is_offered within n ≡ true → is_offered after n ≡ true
@@ -98,8 +98,8 @@ offered_after st act before within after limits o =
     some b r in_blocked in_rows e true any = o.stays r.number (subst (λ w. is_offered w r.number ≡ true) (sym (o.any any)) refl)
     some b r in_blocked in_rows e false none = came (free_comes st act b r none in_rows e)
       where
-        there : (w : WasThere st act b r) → (frees act w.was ≡ true) ⊎ (is_available st b w.was ≡ true) → Has st.blocked b ⊎ ((st.next_number ≤ b.number) × (must_wait (next st act) b ≡ true)) → is_offered after w.was.number ≡ true
-        there w (inl f) (inl old) = o.stays w.was.number (one_that (frees act w.was) (is_offered within w.was.number) (one_of_all (λ r. not (frees act r) || is_offered within r.number) st.rows w.was (o.freed (some_has st.blocked b old)) w.there) f)
+        there : (w : WasThere st act b r) → (frees st act w.was ≡ true) ⊎ (is_available st b w.was ≡ true) → Has st.blocked b ⊎ ((st.next_number ≤ b.number) × (must_wait (next st act) b ≡ true)) → is_offered after w.was.number ≡ true
+        there w (inl f) (inl old) = o.stays w.was.number (one_that (frees st act w.was) (is_offered within w.was.number) (one_of_all (λ r. not (frees st act r) || is_offered within r.number) st.rows w.was (o.freed (some_has st.blocked b old)) w.there) f)
         there w (inr a) (inl old) = o.stays w.was.number (o.keeps w.was.number (was_offered st before b w.was o.old old w.there a))
         there w free (inr new) = absurd (true≢false (sym new.1 ∙ needs_not (next st act) b r in_rows e))
 
@@ -122,7 +122,7 @@ more_offered st o p more h =
     go r false k = refl
 
 pub offered_either : {T E : Type 0} (result : Result T E) (st : State) (act : Step) (new : State) (before within after : Option (List ℕ)) → IsWithinLimits new → OnOk result (new ≡ next st act) → OnErr result (new ≡ st)
-    → are_offered before st ≡ true → (frees_any act ≡ true → within ≡ None) → (st.blocked ≢ [] → list_all (λ r. not (frees act r) || is_offered within r.number) st.rows ≡ true)
+    → are_offered before st ≡ true → (frees_any act ≡ true → within ≡ None) → (st.blocked ≢ [] → list_all (λ r. not (frees st act r) || is_offered within r.number) st.rows ≡ true)
     → ((n : ℕ) → is_offered before n ≡ true → is_offered within n ≡ true) → ((n : ℕ) → st.next_number ≤ n → n < new.next_number → is_offered after n ≡ true) → ((n : ℕ) → is_offered within n ≡ true → is_offered after n ≡ true)
     → are_offered after new ≡ true
 offered_either (Ok t) st act new before within after limits ok err old any freed keeps added stays =

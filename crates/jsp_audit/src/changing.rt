@@ -49,7 +49,7 @@ pub(crate) fn change(
         } => fault(state, *session, *refusal),
         Step::Grant { blocked, rows } => return grant(state, *blocked, rows.as_slice()),
         Step::Empty { blocked } => unblock(state, *blocked),
-        Step::Tell { registration } => tell(state, *registration),
+        Step::Tell { registration } => return tell(state, *registration),
         Step::Due { item } => remove(state, item.rank, item.number),
         Step::Vote { transaction, space } => cast_vote(state, *transaction, *space),
         Step::Decide {

@@ -4,14 +4,19 @@ ghost use Rattle.std.specs.List.{list_all};
 ghost use Rattle.std.specs.Option.{option_map_or};
 ghost use Rattle.jsp_core.specs.Offering.{is_offered};
 ghost use Rattle.jsp_model.specs.declared.state.Row.{Row};
+ghost use Rattle.jsp_model.specs.declared.step.Step.TheVariants as steps;
 ghost use Rattle.jsp_quiet.specs.Freeing.{frees, ask_frees, frees_any as lets_any_go, ask_frees_any};
 ghost use Rattle.jsp_audit.specs.Unmarking.{is_unmarked};
 
 use jsp_core::{Core, Offers};
 use jsp_model::Step;
 use jsp_state::named;
+use jsp_transactions::would_vote_not_changed;
 use jsp_wire::Ask;
 use std::alloc::Global;
+
+/// So many rows are named one by one, whoever waits.
+const FEW_ROWS: usize = 64;
 
 /// The rows that may be let go: those that bear a mark of a transaction, in a space or, where none is
 /// named, in all.
@@ -26,16 +31,26 @@ struct Unmarking {
 /// waits, none need be.
 pub(crate) fn offer_let_go(alloc: Global, state: &Core, offers: &mut Offers, step: &Step)
     ensures any { lets_any_go step.now ≡ true → offers.new ≡ None }
-    ensures freed { state.now.blocked ≢ [] → list_all (λ r. not (frees step.now r) || is_offered offers.new r.number) state.now.rows ≡ true }
+    ensures freed { state.now.blocked ≢ [] → list_all (λ r. not (frees state.now step.now r) || is_offered offers.new r.number) state.now.rows ≡ true }
     ensures keeps { (n : ℕ) → is_offered offers.old n ≡ true → is_offered offers.new n ≡ true }
 {
     if frees_any(step) {
         offers.open();
     } else if state.blocked.is_known_empty() {
         return;
-    } else if let Some(unmarking) = unmarked_by(step) {
+    } else if let Some(unmarking) = unmarked_by(state, step) {
         offer_held(alloc, state, offers, unmarking);
     }
+}
+
+/// Whether so many rows may be let go that it takes longer to name each than to look, for each request that
+/// waits, whether any is for it, and so again whenever one is answered.
+fn are_many(state: &Core, unmarking: Unmarking) -> bool {
+    let rows = state
+        .rows
+        .held_count(unmarking.transaction, unmarking.space);
+    let waiting = state.blocked.most_waiting();
+    FEW_ROWS < rows && waiting.saturating_mul(waiting) < rows
 }
 
 /// Offers the rows that may be let go.
@@ -43,6 +58,10 @@ fn offer_held(alloc: Global, state: &Core, offers: &mut Offers, unmarking: Unmar
     ensures held { list_all (λ r. not (is_unmarked unmarking r) || is_offered offers.new r.number) state.now.rows ≡ true }
     ensures keeps { (n : ℕ) → is_offered offers.old n ≡ true → is_offered offers.new n ≡ true }
 {
+    if are_many(state, unmarking) {
+        offers.open();
+        return;
+    }
     match state
         .rows
         .held_by(alloc, unmarking.transaction, unmarking.space)
@@ -68,20 +87,30 @@ fn asks_to_free_any(ask: &Ask) -> bool
     matches!(ask, Ask::Declare(_) | Ask::CancelAll { .. })
 }
 
-/// The rows that a step may let go, if it may let some go. A vote is about those of its own space.
-fn unmarked_by(step: &Step) -> Option<Unmarking>
-    ensures { (r : Row) → frees step.now r ≡ option_map_or (λ u. is_unmarked u r) result false }
+/// The rows that a step may let go, if it may let some go.
+fn unmarked_by(state: &Core, step: &Step) -> Option<Unmarking>
+    ensures { (r : Row) → frees state.now step.now r ≡ option_map_or (λ u. is_unmarked u r) result false }
 {
     match step {
         Step::Ask { asked, .. } => unmarked_by_request(asked.ask()),
         Step::Due { item } => Some(unmarked_everywhere(item.number)),
-        Step::Vote { transaction, space } => Some(Unmarking {
-            transaction: *transaction,
-            space: Some(*space),
-        }),
+        Step::Vote { transaction, space } => unmarked_by_vote(state, *transaction, *space),
         Step::Decide { transaction, .. } => Some(unmarked_everywhere(*transaction)),
         _ => None,
     }
+}
+
+/// A vote that nothing is changed lets go what was read in its own space, and no other vote lets any row go.
+fn unmarked_by_vote(state: &Core, transaction: u64, space: u64) -> Option<Unmarking>
+    ensures { (r : Row) → frees state.now (steps.Vote transaction space) r ≡ option_map_or (λ u. is_unmarked u r) result false }
+{
+    if !would_vote_not_changed(state, transaction, space) {
+        return None;
+    }
+    Some(Unmarking {
+        transaction,
+        space: Some(space),
+    })
 }
 
 fn unmarked_by_request(ask: &Ask) -> Option<Unmarking>

@@ -1,5 +1,6 @@
 //! A registration's events.
-ghost use Rattle.std.specs.Prelude.{◌≡◌, ◌<◌, ◌+◌, ◌^◌, ◌==◌, find, option_copied, IfOk};
+ghost use Rattle.std.specs.Prelude.{◌≡◌, ◌<◌, ◌+◌, ◌^◌, ◌==◌, find, option_copied, option_map, IfOk};
+ghost use Rattle.jsp_notify.specs.News.{without_owed};
 ghost use Rattle.jsp_reply.specs.declared.reply.Reply.TheVariants as says;
 ghost use Rattle.jsp_model.specs.declared.step.Step.TheVariants as step;
 ghost use Rattle.jsp_model.specs.Lookup.{registration_of as registration_in};
@@ -19,10 +20,7 @@ use std::alloc::Global;
 pub(crate) fn may_tell(state: &Core, number: u64) -> bool
     ensures { result ≡ legal state.now (step.Tell number) }
 {
-    match registration_of(state, number) {
-        None => false,
-        Some(registration) => 0 < registration.owed.as_slice().len(),
-    }
+    state.registrations.is_owed(number)
 }
 
 /// The next event of a registration, if there is one: its sequence number is one above that of the
@@ -56,9 +54,9 @@ fn next_event(registration: &Registration) -> Result<Reply, NoMemory>
     })
 }
 
-/// The registration of this number, if there is one.
+/// The registration of this number, if there is one, but for what it is owed.
 fn registration_of(state: &Core, number: u64) -> Option<&Registration>
-    ensures { option_copied result ≡ registration_in state.now number }
+    ensures { option_map without_owed (option_copied result) ≡ option_map without_owed (registration_in state.now number) }
 {
     state.registrations.get(number)
 }

@@ -61,12 +61,14 @@ impl LiveImage {
         &self.state
     }
 
-    /// Whether any space has a decision that it hasn't applied.
+    /// Whether any space has a decision that it hasn't applied, or any registration is to be told what a
+    /// commit tells it.
     pub fn has_pending(&self) -> bool {
-        self.state.rows.has_pending()
+        self.state.rows.has_pending() || self.state.registrations.has_news()
     }
 
-    /// The space applies the decisions that it hasn't applied. Takes no memory.
+    /// Registrations are told what commits tell them, as far as there is memory for it, and the space
+    /// applies the decisions that it hasn't applied.
     pub fn apply_in(&mut self, space: u64)
         ensures { self.new ≡ self.old }
     {
@@ -80,7 +82,8 @@ impl LiveImage {
         apply_due(&mut self.state);
     }
 
-    /// All spaces apply theirs. Takes no memory.
+    /// Registrations are told what commits tell them, as far as there is memory for it, and all spaces
+    /// apply theirs.
     pub fn apply_all(&mut self)
         ensures { self.new ≡ self.old }
     {
@@ -91,6 +94,7 @@ impl LiveImage {
 fn apply_in(state: &mut Core, space: u64)
     ensures { state.new ≡ state.old }
 {
+    hear(state);
     let rows = &mut state.rows;
     rows.apply_in(space);
 }
@@ -106,6 +110,14 @@ fn apply_due(state: &mut Core)
 fn apply_all(state: &mut Core)
     ensures { state.new ≡ state.old }
 {
+    hear(state);
     let rows = &mut state.rows;
     rows.apply_all();
+}
+
+fn hear(state: &mut Core)
+    ensures { state.new ≡ state.old }
+{
+    let registrations = &mut state.registrations;
+    registrations.hear();
 }

@@ -143,6 +143,11 @@ impl DecidedRows {
 
     // ---- of a transaction, and by end
 
+    /// How many numbers `held_by` would answer.
+    pub fn held_count(&self, x: u64, space: Option<u64>) -> usize {
+        self.stored.held_count(x, space)
+    }
+
     /// Numbers among which are those of all rows that the transaction wrote, took or read, in a
     /// space or, where none is named, in all.
     pub fn held_by(&self, alloc: Global, x: u64, space: Option<u64>) -> Result<Vec<u64>, NoMemory>

@@ -19,7 +19,7 @@ ghost use Rattle.jsp_model.specs.declared.limits.TheConstants.{LAST_NUMBER, LAST
 use jsp_core::Core;
 use jsp_lease::{granted, ms_of};
 use jsp_model::{MOST_ROWS, Row};
-use jsp_notify::Registrations;
+use jsp_notify::{Heard, Registrations};
 use jsp_reply::{Refusal, Reply};
 use jsp_state::{
     caller_of, entries_refusal, entry_of, is_used_up, place_of, rows_in, space_refusal,
@@ -169,11 +169,12 @@ fn add_rows(state: &mut Core, rows: Vec<Row>, caller: Option<u64>) -> Result<(),
     Ok(())
 }
 
+/// Stores the rows, and registrations are owed them.
 fn store(
     classes: &Classes,
     stored: &mut Rows,
     registrations: &mut Registrations,
-    mut rows: Vec<Row>,
+    rows: Vec<Row>,
     caller: Option<u64>,
 ) -> Result<(), NoMemory>
     ensures rows { OnOk result (stored.new ≡ stored.old ++ rows.items) }
@@ -181,11 +182,30 @@ fn store(
     ensures rows_stay { OnErr result (stored.new ≡ stored.old) }
     ensures owed_stay { OnErr result (registrations.new ≡ registrations.old) }
 {
-    registrations.owe_all(classes, rows.as_slice(), caller)?;
+    let mut heard = registrations.take_heard()?;
+    let is_stored = store_owed(classes, stored, &mut heard, rows, caller);
+    registrations.put_back(heard);
+    is_stored
+}
+
+/// Stores the rows beside registrations that are owed them.
+fn store_owed(
+    classes: &Classes,
+    stored: &mut Rows,
+    heard: &mut Heard,
+    mut rows: Vec<Row>,
+    caller: Option<u64>,
+) -> Result<(), NoMemory>
+    ensures rows { OnOk result (stored.new ≡ stored.old ++ rows.items) }
+    ensures owed { OnOk result (heard.new ≡ map (owed classes.now caller rows.items) heard.old) }
+    ensures rows_stay { OnErr result (stored.new ≡ stored.old) }
+    ensures owed_stay { OnErr result (heard.new ≡ heard.old) }
+{
+    heard.owe_all(classes, rows.as_slice(), caller)?;
     match stored.append(&mut rows) {
         Ok(()) => Ok(()),
         Err(e) => {
-            registrations.forgive_all(classes, rows.as_slice(), caller);
+            heard.forgive_all(classes, rows.as_slice(), caller);
             Err(e)
         }
     }

@@ -103,10 +103,15 @@ fn add(state: &mut Core, registration: Registration) -> Result<(), NoMemory>
 
 /// The next event of a registration is told: it is owed one less, and its sequence number rises by
 /// one.
-pub fn tell(state: &mut Core, number: u64)
+///
+/// # Errors
+///
+/// Where memory is refused for what commits told before, the state is as it was.
+pub fn tell(state: &mut Core, number: u64) -> Result<(), NoMemory>
     requires { IsTrue (list_all (λ r. nat_le (r.sequence + 1) (2 ^ 63)) state.old.registrations) }
-    ensures { state.new ≡ told state.old number }
+    ensures ok { OnOk result (state.new ≡ told state.old number) }
+    ensures err { OnErr result (state.new ≡ state.old) }
 {
     let registrations = &mut state.registrations;
-    registrations.tell(number);
+    registrations.tell(number)
 }

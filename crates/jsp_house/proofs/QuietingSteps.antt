@@ -1,5 +1,5 @@
 -- The step that quiets a space further is legal, and there is one wherever the space isn't quiet.
-use Rattle.std.proofs.Common.{◌≡◌, refl, ap, ◌∙◌, ℕ, ◌<◌, ◌≤◌, List, take, length, Bool, true, false, not, ◌&&◌, ◌||◌, Some, None, ◌==◌, arith}
+use Rattle.std.proofs.Common.{◌≡◌, refl, ap, subst, option_map, ◌∙◌, ℕ, ◌<◌, ◌≤◌, List, take, length, Bool, true, false, not, ◌&&◌, ◌||◌, Some, None, ◌==◌, arith}
 use Rattle.std.specs.Prelude.{find}
 use Rattle.std.specs.List.{list_all}
 use Rattle.std.proofs.lemmas.Bool.{and_parts, and_from, eqb-true, eqb-false, not-true}
@@ -86,3 +86,30 @@ tells_in_turn st p r owed h waits found =
     ap (λ (o : Option Registration). option_map_or (λ (q : Registration). all_must_wait st q.space) o true) (registration_found st r h k.0)
     ∙ ap (all_must_wait st) here
     ∙ none_left (λ (b : Blocked). b.space == p) (must_wait st) st.blocked waits
+
+-- ---- the registration by its number
+
+-- the number of the first that is owed an event
+abbrev pub first_owed : State → ℕ → Option ℕ
+first_owed st p = option_map (λ (r : Registration). r.number) (find (is_owed p) st.registrations)
+
+owed_one : (st : State) (p n : ℕ) (P : ℕ → Type 0) → ((r : Registration) → find (is_owed p) st.registrations ≡ Some r → P r.number) → first_owed st p ≡ Some n → P n
+owed_one st p n P one found =
+    let Goal : Option Registration → Type 0 = λ o. find (is_owed p) st.registrations ≡ o → option_map (λ (r : Registration). r.number) o ≡ Some n → P n in
+    let by_cases : (o : Option Registration) → Goal o = λ o. elim o as Goal [
+      | None ↦ λ is e. absurd (cc e)
+      | Some r ↦ λ is e. let same : r.number ≡ n = cc in subst P same (one r is)
+    ] in
+    by_cases (find (is_owed p) st.registrations) refl found
+
+pub tells_number : (st : State) (p n : ℕ) → IsWithinLimits st → first_owed st p ≡ Some n → is_legal st (step.Tell n) ≡ true
+tells_number st p n h found = owed_one st p n (λ (m : ℕ). is_legal st (step.Tell m) ≡ true) (λ r is. tells st p r h is) found
+
+pub tells_number_in_turn : (st : State) (p n : ℕ) (owed : List ℕ) → IsWithinLimits st → find (released st p) st.blocked ≡ None → first_owed st p ≡ Some n → comes_in_turn st owed (step.Tell n) ≡ true
+tells_number_in_turn st p n owed h waits found = owed_one st p n (λ (m : ℕ). comes_in_turn st owed (step.Tell m) ≡ true) (λ r is. tells_in_turn st p r owed h waits is) found
+
+pub nobody_left : (st : State) (p : ℕ) → find (released st p) st.blocked ≡ None → first_owed st p ≡ None → is_quiet st p ≡ true
+nobody_left st p waits none =
+    let unmapped : (o : Option Registration) → option_map (λ (r : Registration). r.number) o ≡ None → o ≡ None =
+    λ o. elim o as (λ o. option_map (λ (r : Registration). r.number) o ≡ None → o ≡ None) [ None ↦ λ e. refl | Some r ↦ λ e. absurd (cc e) ] in
+    nothing_left st p waits (unmapped (find (is_owed p) st.registrations) none)

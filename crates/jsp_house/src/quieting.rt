@@ -1,5 +1,6 @@
 //! What a space that isn't quiet owes next.
-ghost use Rattle.std.specs.Prelude.{◌≡◌, ℕ, List, ◌==◌, ◌&&◌, not, length, find, option_copied, IfOk, IfSome, IfNone, IsTrue};
+ghost use Rattle.std.specs.Prelude.{◌≡◌, ℕ, List, ◌==◌, ◌&&◌, not, length, find, option_map, IfOk, IfSome, IfNone, IsTrue};
+ghost use Rattle.jsp_model.specs.declared.state.Registration.{Registration as OfRegistration};
 ghost use Rattle.jsp_model.specs.Quiet.{is_quiet};
 ghost use Rattle.jsp_model.specs.Steps.{is_legal};
 ghost use Rattle.jsp_model.specs.House.{comes_in_turn};
@@ -7,7 +8,7 @@ ghost use Rattle.jsp_quiet.specs.Quieting.{quiets};
 
 use jsp_audit::choose;
 use jsp_core::{Core, LiveImage};
-use jsp_model::{Registration, Step};
+use jsp_model::Step;
 use jsp_state::{first_answerable, first_grantable};
 use jsp_types::NoMemory;
 use std::alloc::Global;
@@ -41,15 +42,13 @@ pub(crate) fn quieting_step(
     }
     match first_owed(state, space) {
         None => Ok(None),
-        Some(registration) => Ok(Some(Step::Tell {
-            registration: registration.number,
-        })),
+        Some(registration) => Ok(Some(Step::Tell { registration })),
     }
 }
 
-/// The first registration of the space that is owed an event.
-fn first_owed<'a>(state: &'a Core, space: u64) -> Option<&'a Registration>
-    ensures { option_copied result ≡ find (λ r. r.space == space && not (length r.owed == 0)) state.now.registrations }
+/// The number of the first registration of the space that is owed an event.
+fn first_owed(state: &Core, space: u64) -> Option<u64>
+    ensures { result ≡ option_map (λ (r : OfRegistration). r.number) (find (λ r. r.space == space && not (length r.owed == 0)) state.now.registrations) }
 {
     state.registrations.first_owed(space)
 }

@@ -12,7 +12,7 @@ ghost use Rattle.jsp_index.specs.Finding.{is_asked};
 ghost use Rattle.jsp_sight.specs.Rows.{offered, offered_among, held, shows, row_end, entries_among, is_of, is_held};
 
 use crate::asking::{ChangedBy, InConflict, Offered, OneOf, PublishedBy, Shown};
-use crate::holding::{listed, numbers_in};
+use crate::holding::{count_listed, listed, numbers_in};
 use crate::listing::{entries_named, named_by, rows_held};
 use crate::searching::Behind;
 use crate::starts::Unseen;
@@ -160,6 +160,14 @@ impl HintedRows {
             space,
         };
         rows.first_named(numbers, 0, &test).is_some()
+    }
+
+    /// How many numbers `held_by` would answer.
+    pub fn held_count(&self, x: u64, space: Option<u64>) -> usize {
+        match self.holders.get(&x) {
+            None => 0,
+            Some(holdings) => count_listed(holdings.as_slice(), space),
+        }
     }
 
     /// Numbers among which are those of all rows that the transaction wrote, took or read, in a

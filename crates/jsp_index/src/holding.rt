@@ -62,6 +62,17 @@ pub(crate) fn is_longer(holders: &Holders, x: u64, space: u64, most: usize) -> b
     }
 }
 
+/// How many numbers are listed for a space or, where none is named, for all.
+pub(crate) fn count_listed(holdings: &[Holding], space: Option<u64>) -> usize {
+    let mut count: usize = 0;
+    'holdings: for holding in holdings {
+        if space.is_none() || space == Some(holding.space) {
+            count = count.saturating_add(holding.numbers.len());
+        }
+    }
+    count
+}
+
 /// The numbers that are listed for a space or, where none is named, for all.
 pub(crate) fn numbers_in(
     alloc: Global,

@@ -2,3 +2,5 @@ pub mod Owed
 pub mod Telling
 pub mod Listening
 pub mod Keyed
+pub mod Hearing
+pub mod Asked

@@ -27,11 +27,11 @@ all_forgiven classes caller rows registrations =
 
 -- ---- one row after the other
 
-same_lists : {X : Type 0} {x y : X} {xs ys : List X} → x ≡ y → xs ≡ ys → x ∷ xs ≡ y ∷ ys
+pub same_lists : {X : Type 0} {x y : X} {xs ys : List X} → x ≡ y → xs ≡ ys → x ∷ xs ≡ y ∷ ys
 same_lists e h = cc
 
 -- what is owed of some and then of others
-owed_parts : (classes : List Class) (caller : Option ℕ) (xs ys : List Row) (r : Registration) → owed classes caller (xs ++ ys) r ≡ owed classes caller ys (owed classes caller xs r)
+pub owed_parts : (classes : List Class) (caller : Option ℕ) (xs ys : List Row) (r : Registration) → owed classes caller (xs ++ ys) r ≡ owed classes caller ys (owed classes caller xs r)
 owed_parts classes caller xs ys r =
     let news = is_news classes caller r in
     let number = λ (w : Row). w.number in

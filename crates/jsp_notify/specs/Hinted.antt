@@ -1,8 +1,8 @@
 -- Registrations, however they are kept.
 use Rattle.std.specs.Prelude.{List}
 use Rattle.jsp_model.specs.declared.state.Registration.{Registration}
-use Rattle.jsp_notify.specs.declared.registrations.Kept.{Kept}
-use Rattle.jsp_notify.specs.declared.registrations.Kept.TheVariants.{Scanned, Hinted}
+use Rattle.jsp_notify.specs.declared.heard.Kept.{Kept}
+use Rattle.jsp_notify.specs.declared.heard.Kept.TheVariants.{Scanned, Hinted}
 
 abbrev pub registrations_in : Kept → List Registration
 registrations_in (Scanned registrations) = registrations.items

@@ -3,3 +3,4 @@ pub mod Registered
 pub mod Sought
 pub mod Waiting
 pub mod Hinted
+pub mod News

@@ -1,10 +1,13 @@
 //! What is asked of registrations, and under which keys they are found.
-ghost use Rattle.std.specs.Prelude.{◌==◌, ◌&&◌, [], ◌∷◌, not, length};
+ghost use Rattle.std.specs.Prelude.{◌==◌, ◌&&◌, [], ◌∷◌, ◌≡◌, None, not, length};
+ghost use Rattle.std.specs.List.{list_any};
 ghost use Rattle.jsp_model.specs.Lookup.{is_caller as calls};
 ghost use Rattle.jsp_keyed.specs.Keys.{session_key, transaction_key, space_key};
 ghost use Rattle.jsp_keyed.specs.Templates.{entry_keys};
+ghost use Rattle.jsp_notify.specs.News.{hearing, untold};
 ghost use Rattle.jsp_notify.specs.Owing.{is_news as has_news};
 
+use crate::news::News;
 use crate::owing::is_news;
 use jsp_keyed::{
     Keys, count_entry_keys, entry_key, key_of_session, key_of_space, key_of_transaction,
@@ -106,15 +109,55 @@ impl Test<Registration> for OwedAt {
     }
 }
 
+/// Whether it is at a space and owed an event, once it has heard what commits tell.
+#[derive(Drop)]
+pub(crate) struct OwedAfter<'a> {
+    pub(crate) news: &'a [News],
+    pub(crate) space: u64,
+}
+
+impl<'a> Test<Registration> for OwedAfter<'a> {
+    ghost is_passed = { λ t r. r.space == t.space && not (length (hearing t.news.now r).owed == 0) };
+
+    fn passes(&self, registration: &Registration) -> bool {
+        registration.space == self.space && is_owed_after(self.news, registration)
+    }
+}
+
+impl<'a> Keys for OwedAfter<'a> {
+    ghost sought = { λ t seed. space_key seed t.space ∷ [] };
+
+    fn sought_count(&self, _seed: u64) -> usize {
+        1
+    }
+
+    fn sought_key(&self, seed: u64, _place: usize) -> u64 {
+        key_of_space(seed, self.space)
+    }
+}
+
+/// Whether it is owed an event, once it has heard what commits tell.
+pub(crate) fn is_owed_after(news: &[News], registration: &Registration) -> bool
+    ensures { result ≡ not (length (hearing news.now registration.now).owed == 0) }
+{
+    !registration.owed.as_slice().is_empty() || is_any_for(news, registration)
+}
+
+fn is_any_for(news: &[News], registration: &Registration) -> bool
+    ensures { result ≡ list_any (λ n. list_any (has_news n.classes None registration.now) (untold n)) news.now }
+{
+    news.iter().any(|one| one.is_for(registration))
+}
+
 /// Whether a row that the caller wrote is news to it.
 #[derive(Drop)]
-pub(crate) struct News<'a> {
+pub(crate) struct Hears<'a> {
     pub(crate) classes: &'a Classes,
     pub(crate) row: &'a Row,
     pub(crate) caller: Option<u64>,
 }
 
-impl<'a> Test<Registration> for News<'a> {
+impl<'a> Test<Registration> for Hears<'a> {
     ghost is_passed = { λ t r. has_news t.classes.now t.caller r t.row.now };
 
     fn passes(&self, registration: &Registration) -> bool {
@@ -122,7 +165,7 @@ impl<'a> Test<Registration> for News<'a> {
     }
 }
 
-impl<'a> Keys for News<'a> {
+impl<'a> Keys for Hears<'a> {
     ghost sought = { λ t seed. entry_keys seed t.classes.now t.row.now.space t.row.now.entry };
 
     fn sought_count(&self, _seed: u64) -> usize {

@@ -10,7 +10,7 @@ ghost use Rattle.jsp_notify.specs.Owing.{owed as with_owed, forgiven};
 ghost use Rattle.jsp_notify.specs.Registered.{registration_end, registration_ending, told_once};
 ghost use Rattle.jsp_notify.specs.Sought.{registration_keys};
 
-use crate::asking::{News, OwedAt};
+use crate::asking::{Hears, OwedAt};
 use crate::by_number::Found;
 use crate::changing::{Extension, Forgiving, Owing, Telling};
 use crate::naming::{forget_gone, forget_told, name_listeners, name_owed};
@@ -127,7 +127,7 @@ impl HintedRegistrations {
         ensures ok { OnOk result (self.new ≡ map (with_owed classes.now caller (row.now ∷ [])) self.old) }
         ensures err { OnErr result (self.new ≡ self.old) }
     {
-        let news = News {
+        let news = Hears {
             classes,
             row,
             caller,
@@ -144,7 +144,7 @@ impl HintedRegistrations {
     fn forgive(&mut self, classes: &Classes, row: &Row, caller: Option<u64>)
         ensures { self.new ≡ map (forgiven classes.now caller (row.now ∷ [])) self.old }
     {
-        let news = News {
+        let news = Hears {
             classes,
             row,
             caller,
@@ -204,7 +204,7 @@ impl HintedRegistrations {
     }
 
     /// The number of the first that passes the test.
-    fn first_number<P: Test<Registration> + Keys>(&self, test: &P) -> Option<u64>
+    pub(crate) fn first_number<P: Test<Registration> + Keys>(&self, test: &P) -> Option<u64>
         requires { (seed : ℕ) (r : OfRegistration) → P.is_passed test.now r ≡ true → is_sought (P.sought test.now seed) (registration_keys seed r) ≡ true }
         ensures found { result ≡ option_map (λ (r : OfRegistration). r.number) (find (P.is_passed test.now) self.now) }
         ensures rising { AreNumbered (λ (r : OfRegistration). r.number) self.now }

@@ -13,10 +13,13 @@ mod asking;
 mod by_number;
 mod changing;
 mod finding;
+mod heard;
 mod hinted;
 mod naming;
+mod news;
 mod owing;
 mod registrations;
 mod scanned;
 
+pub use heard::Heard;
 pub use registrations::Registrations;

@@ -1,47 +1,41 @@
 //! The registrations. Contracts see them as a list, in the order in which they were made.
-ghost use Rattle.std.specs.Prelude.{◌≡◌, ◌==◌, ◌&&◌, ◌||◌, ◌++◌, ◌∷◌, ◌^◌, ◌+◌, [], not, nat_le, map, filter, find, length, option_copied, IfOk, OnOk, OnErr, MatchOption, IsTrue};
+ghost use Rattle.std.specs.Prelude.{◌≡◌, ◌==◌, ◌&&◌, ◌||◌, ◌++◌, ◌∷◌, ◌^◌, ◌+◌, ℕ, List, [], None, false, not, nat_le, nat_lt, map, filter, find, length, option_copied, option_map, IfOk, OnOk, OnErr, IsTrue};
 ghost use Rattle.std.specs.List.{list_any, list_all};
+ghost use Rattle.std.specs.Option.{option_map_or};
 ghost use Rattle.jsp_lease.specs.Due.{first_item, over_by};
+ghost use Rattle.jsp_model.specs.declared.state.Registration.{Registration as OfRegistration};
 ghost use Rattle.jsp_model.specs.Lookup.{update, is_caller as calls};
-ghost use Rattle.jsp_notify.specs.Owing.{owed as with_owed, forgiven};
+ghost use Rattle.jsp_notify.specs.News.{hearing, without_owed};
+ghost use Rattle.jsp_notify.specs.Owing.{owed as with_owed};
 ghost use Rattle.jsp_notify.specs.Registered.{registration_end, registration_ending, told_once};
 
-use crate::asking::{At, OfSession, Under};
-use crate::finding::spaces_of;
-use crate::hinted::HintedRegistrations;
-use crate::owing::{forgive_each, owe_each};
-use crate::scanned::{
-    any_numbered, copies_of, count_at, drop_at, drop_numbered, drop_of, drop_under, extend_each,
-    find_numbered, first_over, first_that_is_owed, spaces_among, tell_each,
-};
+use crate::asking::{OwedAfter, is_owed_after};
+use crate::heard::Heard;
+use crate::news::{News, tell_all};
 use jsp_model::{Item, Registration, Row};
 use jsp_table::Test;
 use jsp_types::{Classes, Items, NoMemory};
 use std::alloc::Global;
 use std::marker::Model;
+use std::mem;
 
-/// The registrations.
+/// The registrations. What a commit tells them is recorded with it, and told before anything else is: each is
+/// owed in the order of what is done. Contracts see each with all that it is owed.
 #[derive(Drop)]
 pub struct Registrations {
     alloc: Global,
-    kept: Kept,
-}
-
-/// How they are kept.
-#[derive(Drop)]
-pub(crate) enum Kept {
-    Scanned(Vec<Registration>),
-    Hinted(HintedRegistrations),
+    heard: Heard,
+    news: Items<News>,
 }
 
 impl Model for Registrations {
-    ghost use Rattle.std.specs.Prelude.{List};
+    ghost use Rattle.std.specs.Prelude.{List, map};
     ghost use Rattle.jsp_model.specs.declared.state.Registration.{Registration};
-    ghost use Rattle.jsp_notify.specs.Hinted.{registrations_in};
+    ghost use Rattle.jsp_notify.specs.News.{hearing};
 
     ghost Value = { List Registration };
 
-    ghost view = { λ a. registrations_in a.kept };
+    ghost view = { λ a. map (hearing a.news) a.heard };
 }
 
 impl Registrations {
@@ -49,10 +43,7 @@ impl Registrations {
     pub fn scanned(alloc: Global, registrations: Items<Registration>) -> Self
         ensures { result ≡ registrations }
     {
-        Registrations {
-            alloc,
-            kept: Kept::Scanned(registrations.into_vec()),
-        }
+        Registrations::with(alloc, Heard::scanned(alloc, registrations))
     }
 
     /// No registrations; they will be found by hints. The keys come from the seed, which clients aren't
@@ -60,10 +51,7 @@ impl Registrations {
     pub fn new(alloc: Global, seed: u64) -> Self
         ensures { result ≡ [] }
     {
-        Registrations {
-            alloc,
-            kept: Kept::Hinted(HintedRegistrations::new(alloc, seed)),
-        }
+        Registrations::with(alloc, Heard::new(alloc, seed))
     }
 
     /// These registrations, found by hints.
@@ -74,62 +62,97 @@ impl Registrations {
     ) -> Result<Self, NoMemory>
         ensures { IfOk result (λ rs. rs ≡ registrations) }
     {
-        let mut made = Registrations::new(alloc, seed);
-        let mut registrations = registrations.into_vec();
-        registrations.reverse();
-        'registrations: while let Some(registration) = registrations.pop() {
-            made.push(registration)?;
+        let heard = Heard::of(alloc, registrations, seed)?;
+        Ok(Registrations::with(alloc, heard))
+    }
+
+    #[tactic(auto, using(crate::proofs::Hearing::all_heard))]
+    fn with(alloc: Global, heard: Heard) -> Self
+        ensures { result ≡ heard }
+    {
+        Registrations {
+            alloc,
+            heard,
+            news: Items::new(alloc),
         }
-        Ok(made)
     }
 
     /// A plain copy of these registrations.
     pub fn to_items(&self) -> Result<Items<Registration>, NoMemory>
         ensures { IfOk result (λ c. c ≡ self.now) }
     {
-        match &self.kept {
-            Kept::Scanned(registrations) => copies_of(self.alloc, registrations),
-            Kept::Hinted(registrations) => registrations.found().to_items(self.alloc),
-        }
+        let mut copies = self.heard.to_items()?;
+        tell_copies(&mut copies.items, self.news.as_slice())?;
+        Ok(copies)
+    }
+
+    // ---- what a commit tells
+
+    /// Each registration is owed those of the rows, which a commit publishes, that are news to it, in their
+    /// order and after all that it is owed: in its space, and as its template matches. That is recorded, in
+    /// the time that a copy of the classes takes, and told later.
+    ///
+    /// An event is told for each entry that becomes visible (JavaSpaces notify). That one is told for
+    /// each row, in the order of the rows, is this profile's own.
+    ///
+    /// # Errors
+    ///
+    /// Where memory is refused no registration is owed more than before.
+    pub fn record(&mut self, classes: &Classes, published: Items<Row>) -> Result<(), NoMemory>
+        ensures ok { OnOk result (self.new ≡ map (with_owed classes.now None published) self.old) }
+        ensures err { OnErr result (self.new ≡ self.old) }
+    {
+        let news = News::of(classes, published)?;
+        self.news.push(news)?;
+        Ok(())
+    }
+
+    /// Whether anything that commits tell isn't told yet.
+    pub fn has_news(&self) -> bool {
+        !self.news.as_slice().is_empty()
+    }
+
+    /// What commits tell is told, as far as there is memory for it.
+    pub fn hear(&mut self)
+        ensures { self.new ≡ self.old }
+    {
+        // What finds no memory stays recorded.
+        let _told = tell_all(&mut self.heard, &mut self.news);
+    }
+
+    /// Takes the registrations out, each with all that it is owed, so that they can be owed more; `put_back`
+    /// puts them back. None is here meanwhile.
+    ///
+    /// # Errors
+    ///
+    /// Where memory is refused they stay.
+    pub fn take_heard(&mut self) -> Result<Heard, NoMemory>
+        ensures ok { IfOk result (λ heard. (heard ≡ self.old) × (self.new ≡ [])) }
+        ensures err { OnErr result (self.new ≡ self.old) }
+    {
+        tell_all(&mut self.heard, &mut self.news)?;
+        let none = Heard::scanned(self.alloc, Items::new(self.alloc));
+        Ok(mem::replace(&mut self.heard, none))
+    }
+
+    /// These are the registrations, in place of those that are here.
+    #[tactic(auto, using(crate::proofs::Hearing::all_heard))]
+    pub fn put_back(&mut self, heard: Heard)
+        ensures { self.new ≡ heard }
+    {
+        self.heard = heard;
+        self.news = Items::new(self.alloc);
     }
 
     // ---- add
 
-    /// Adds a registration at the end, whole or not at all.
+    /// Adds a registration at the end, whole or not at all. It hears nothing of what commits told before.
     pub fn push(&mut self, registration: Registration) -> Result<(), NoMemory>
         ensures ok { OnOk result (self.new ≡ self.old ++ registration ∷ []) }
         ensures err { OnErr result (self.new ≡ self.old) }
     {
-        match self.push_rising(registration)? {
-            None => Ok(()),
-            Some(registration) => self.push_scanned(registration),
-        }
-    }
-
-    /// Adds a registration at the end, or gives it back where its number has to rise and doesn't.
-    fn push_rising(&mut self, registration: Registration) -> Result<Option<Registration>, NoMemory>
-        ensures ok { IfOk result (λ back. MatchOption back (self.new ≡ self.old ++ registration ∷ []) (λ it. (it ≡ registration) × (self.new ≡ self.old))) }
-        ensures err { OnErr result (self.new ≡ self.old) }
-    {
-        match &mut self.kept {
-            Kept::Scanned(registrations) => {
-                registrations.push(registration)?;
-                Ok(None)
-            }
-            Kept::Hinted(registrations) => registrations.push(registration),
-        }
-    }
-
-    /// Adds a registration at the end. Hints are for rising numbers, which the machine's are; each is
-    /// looked at from here on.
-    fn push_scanned(&mut self, registration: Registration) -> Result<(), NoMemory>
-        ensures ok { OnOk result (self.new ≡ self.old ++ registration ∷ []) }
-        ensures err { OnErr result (self.new ≡ self.old) }
-    {
-        let mut plain = self.to_items()?.into_vec();
-        plain.push(registration)?;
-        self.kept = Kept::Scanned(plain);
-        Ok(())
+        tell_all(&mut self.heard, &mut self.news)?;
+        self.heard.push(registration)
     }
 
     // ---- leave out. Nothing here takes memory.
@@ -138,99 +161,53 @@ impl Registrations {
     pub fn remove(&mut self, number: u64)
         ensures { self.new ≡ filter (λ r. not (r.number == number)) self.old }
     {
-        match &mut self.kept {
-            Kept::Scanned(registrations) => drop_numbered(registrations, number),
-            Kept::Hinted(registrations) => registrations.remove(number),
-        }
+        self.heard.remove(number);
     }
 
     /// The registrations of a session go.
     pub fn remove_of(&mut self, session: u64)
         ensures { self.new ≡ filter (λ r. not (r.session == session)) self.old }
     {
-        match &mut self.kept {
-            Kept::Scanned(registrations) => drop_of(registrations, session),
-            Kept::Hinted(registrations) => registrations.remove_all(&OfSession { session }),
-        }
+        self.heard.remove_of(session);
     }
 
     /// The registrations under a transaction go.
     pub fn remove_under(&mut self, x: u64)
         ensures { self.new ≡ filter (λ r. not (calls r.transaction x)) self.old }
     {
-        match &mut self.kept {
-            Kept::Scanned(registrations) => drop_under(registrations, x),
-            Kept::Hinted(registrations) => registrations.remove_all(&Under { transaction: x }),
-        }
+        self.heard.remove_under(x);
     }
 
     /// The registrations at a space go.
     pub fn clear(&mut self, space: u64)
         ensures { self.new ≡ filter (λ r. not (r.space == space)) self.old }
     {
-        match &mut self.kept {
-            Kept::Scanned(registrations) => drop_at(registrations, space),
-            Kept::Hinted(registrations) => registrations.remove_all(&At { space }),
-        }
+        self.heard.clear(space);
     }
 
     // ---- change in place
 
-    /// Each registration is owed those of the rows, written by the caller, that are news to it, in their
-    /// order: what is written under a transaction is for the registrations under it, and else for each;
-    /// in its space, and as its template matches. `forgive_all` takes that back.
-    ///
-    /// An event is told for each entry that becomes visible (JavaSpaces notify). That one is told for
-    /// each row, in the order of the rows, is this profile's own.
+    /// The next event of a registration is told: it is owed one less, and its sequence number rises by
+    /// one.
     ///
     /// # Errors
     ///
-    /// Where memory is refused no registration is owed more than before.
-    pub fn owe_all(
-        &mut self,
-        classes: &Classes,
-        rows: &[Row],
-        caller: Option<u64>,
-    ) -> Result<(), NoMemory>
-        ensures ok { OnOk result (self.new ≡ map (with_owed classes.now caller rows.now) self.old) }
+    /// Where memory is refused for what commits told before, nothing is told.
+    pub fn tell(&mut self, number: u64) -> Result<(), NoMemory>
+        requires { IsTrue (list_all (λ r. nat_le (r.sequence + 1) (2 ^ 63)) self.old) }
+        ensures ok { OnOk result (self.new ≡ update (λ r. r.number == number) told_once self.old) }
         ensures err { OnErr result (self.new ≡ self.old) }
     {
-        match &mut self.kept {
-            Kept::Scanned(registrations) => owe_each(classes, registrations, rows, caller),
-            Kept::Hinted(registrations) => registrations.owe_all(classes, rows, caller),
-        }
-    }
-
-    /// Takes back what each registration was owed last: as many rows as are news to it. Takes no memory.
-    pub fn forgive_all(&mut self, classes: &Classes, rows: &[Row], caller: Option<u64>)
-        ensures { self.new ≡ map (forgiven classes.now caller rows.now) self.old }
-    {
-        match &mut self.kept {
-            Kept::Scanned(registrations) => forgive_each(classes, registrations, rows, caller),
-            Kept::Hinted(registrations) => registrations.forgive_all(classes, rows, caller),
-        }
-    }
-
-    /// The next event of a registration is told: it is owed one less, and its sequence number rises by
-    /// one. Takes no memory.
-    pub fn tell(&mut self, number: u64)
-        requires { IsTrue (list_all (λ r. nat_le (r.sequence + 1) (2 ^ 63)) self.old) }
-        ensures { self.new ≡ update (λ r. r.number == number) told_once self.old }
-    {
-        match &mut self.kept {
-            Kept::Scanned(registrations) => tell_each(registrations, number),
-            Kept::Hinted(registrations) => registrations.tell(number),
-        }
+        tell_all(&mut self.heard, &mut self.news)?;
+        self.heard.tell(number);
+        Ok(())
     }
 
     /// The registration of this number ends then. Takes no memory.
     pub fn extend(&mut self, number: u64, end: u64)
         ensures { self.new ≡ map (registration_ending number end) self.old }
     {
-        match &mut self.kept {
-            Kept::Scanned(registrations) => extend_each(registrations, number, end),
-            Kept::Hinted(registrations) => registrations.extend(number, end),
-        }
+        self.heard.extend(number, end);
     }
 
     // ---- find. Nothing here takes memory but what answers in a list.
@@ -239,56 +216,52 @@ impl Registrations {
     pub fn is_empty(&self) -> bool
         ensures { result ≡ (length self.now == 0) }
     {
-        match &self.kept {
-            Kept::Scanned(registrations) => registrations.is_empty(),
-            Kept::Hinted(registrations) => registrations.found().is_empty(),
-        }
+        self.heard.is_empty()
     }
 
     /// Whether there are so many.
     pub fn has_at_least(&self, count: usize) -> bool
         ensures { result ≡ nat_le count (length self.now) }
     {
-        match &self.kept {
-            Kept::Scanned(registrations) => count <= registrations.len(),
-            Kept::Hinted(registrations) => registrations.found().has_at_least(count),
-        }
+        self.heard.has_at_least(count)
     }
 
     /// How many there are at a space.
     pub fn count_in(&self, space: u64) -> usize
         ensures { result ≡ length (filter (λ r. r.space == space) self.now) }
     {
-        match &self.kept {
-            Kept::Scanned(registrations) => count_at(registrations, space),
-            Kept::Hinted(registrations) => registrations.found().count(&At { space }),
-        }
+        self.heard.count_in(space)
     }
 
-    /// The registration of this number.
+    /// The registration of this number, but for what it is owed.
     pub fn get(&self, number: u64) -> Option<&Registration>
-        ensures { option_copied result ≡ find (λ r. r.number == number) self.now }
+        ensures { option_map without_owed (option_copied result) ≡ option_map without_owed (find (λ r. r.number == number) self.now) }
     {
-        match &self.kept {
-            Kept::Scanned(registrations) => find_numbered(registrations, number),
-            Kept::Hinted(registrations) => registrations.get(number),
-        }
+        self.heard.get(number)
     }
 
     /// Whether a registration has this number.
     pub fn has(&self, number: u64) -> bool
         ensures { result ≡ list_any (λ r. r.number == number) self.now }
     {
-        self.get(number).is_some()
+        self.heard.has(number)
     }
 
-    /// Whether a registration of this number passes a test.
+    /// Whether a registration of this number passes a test, which doesn't ask what it is owed.
     pub fn any_of<P: Test<Registration>>(&self, number: u64, test: &P) -> bool
+        requires { (owed : List ℕ) (r : OfRegistration) → P.is_passed test.now (record r { owed = owed }) ≡ P.is_passed test.now r }
         ensures { result ≡ list_any (λ r. r.number == number && P.is_passed test.now r) self.now }
     {
-        match &self.kept {
-            Kept::Scanned(registrations) => any_numbered(registrations, number, test),
-            Kept::Hinted(registrations) => registrations.found().any_of(number, test),
+        self.heard.any_of(number, test)
+    }
+
+    /// Whether the registration of this number is owed an event.
+    pub fn is_owed(&self, number: u64) -> bool
+        ensures { result ≡ option_map_or (λ r. nat_lt 0 (length r.owed)) (find (λ r. r.number == number) self.now) false }
+    {
+        match self.heard.get(number) {
+            None => false,
+            Some(registration) => is_owed_after(self.news.as_slice(), registration),
         }
     }
 
@@ -299,13 +272,18 @@ impl Registrations {
         self.first_owed(space).is_none()
     }
 
-    /// The first registration of the space that is owed an event.
-    pub fn first_owed(&self, space: u64) -> Option<&Registration>
-        ensures { option_copied result ≡ find (λ r. r.space == space && not (length r.owed == 0)) self.now }
+    /// The number of the first registration of the space that is owed an event. While anything that commits
+    /// tell isn't told yet, all registrations of the space are looked at.
+    pub fn first_owed(&self, space: u64) -> Option<u64>
+        ensures { result ≡ option_map (λ (r : OfRegistration). r.number) (find (λ r. r.space == space && not (length r.owed == 0)) self.now) }
     {
-        match &self.kept {
-            Kept::Scanned(registrations) => first_that_is_owed(registrations, space),
-            Kept::Hinted(registrations) => registrations.first_owed(space),
+        let news = self.news.as_slice();
+        if !news.is_empty() {
+            return self.heard.first_number(&OwedAfter { news, space });
+        }
+        match self.heard.first_owed(space) {
+            None => None,
+            Some(registration) => Some(registration.number),
         }
     }
 
@@ -313,19 +291,23 @@ impl Registrations {
     pub fn due(&self, time: u64) -> Option<Item>
         ensures { result ≡ first_item (over_by time (map registration_end self.now)) }
     {
-        match &self.kept {
-            Kept::Scanned(registrations) => first_over(registrations, time),
-            Kept::Hinted(registrations) => registrations.due(time),
-        }
+        self.heard.due(time)
     }
 
     /// The spaces of the registrations of this number.
     pub fn spaces_of(&self, alloc: Global, number: u64) -> Result<Vec<u64>, NoMemory>
         ensures { IfOk result (λ v. v.items ≡ map (λ r. r.space) (filter (λ r. r.number == number) self.now)) }
     {
-        match &self.kept {
-            Kept::Scanned(registrations) => spaces_among(alloc, registrations, number),
-            Kept::Hinted(registrations) => spaces_of(alloc, registrations.found(), number),
-        }
+        self.heard.spaces_of(alloc, number)
     }
+}
+
+/// Each copy is owed what commits tell.
+fn tell_copies(copies: &mut [Registration], news: &[News]) -> Result<(), NoMemory>
+    ensures { OnOk result (copies.new ≡ map (hearing news.now) copies.old) }
+{
+    'news: for one in news {
+        one.tell_copies(copies)?;
+    }
+    Ok(())
 }

@@ -1,5 +1,6 @@
 //! Registrations in a plain list, each of which a call goes through.
-ghost use Rattle.std.specs.Prelude.{◌≡◌, ◌==◌, ◌&&◌, ◌+◌, ◌^◌, not, nat_le, map, filter, find, fold, reverse, length, option_copied, None, IfOk, IsTrue};
+ghost use Rattle.std.specs.Prelude.{◌≡◌, ◌==◌, ◌&&◌, ◌+◌, ◌^◌, not, nat_le, map, filter, find, fold, reverse, length, option_copied, option_map, None, IfOk, IsTrue};
+ghost use Rattle.jsp_model.specs.declared.state.Registration.{Registration as OfRegistration};
 ghost use Rattle.std.specs.List.{list_any, list_all};
 ghost use Rattle.jsp_lease.specs.Due.{first_item, over_by};
 ghost use Rattle.jsp_model.specs.Lookup.{update, is_caller as calls};
@@ -173,4 +174,17 @@ pub(crate) fn any_numbered<P: Test<Registration>>(
     registrations
         .iter()
         .any(|r| r.number == number && test.passes(r))
+}
+
+/// The number of the first that passes the test.
+pub(crate) fn first_passing<P: Test<Registration>>(
+    registrations: &[Registration],
+    test: &P,
+) -> Option<u64>
+    ensures { result ≡ option_map (λ (r : OfRegistration). r.number) (find (P.is_passed test.now) registrations.now) }
+{
+    match registrations.iter().find(|r| test.passes(r)) {
+        None => None,
+        Some(registration) => Some(registration.number),
+    }
 }

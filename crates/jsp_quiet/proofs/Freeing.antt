@@ -1,5 +1,5 @@
 -- Where the rows come from that a request may be given after a step.
-use Rattle.std.proofs.Common.{◌≡◌, refl, sym, ◌∙◌, subst, ℕ, ℤ, ◌+◌, ◌≤◌, ◌⊎◌, inl, inr, List, [], ◌∷◌, ◌++◌, Bool, true, false, not, cond, ◌||◌, ◌&&◌, filter, fold, Option, Some, None, is_some, ◌==◌, eqb-true, true≢false}
+use Rattle.std.proofs.Common.{◌≡◌, refl, sym, ◌∙◌, ap, subst, ℕ, ℤ, ◌+◌, ◌≤◌, ◌⊎◌, inl, inr, List, [], ◌∷◌, ◌++◌, Bool, true, false, not, cond, ◌||◌, ◌&&◌, filter, fold, Option, Some, None, is_some, ◌==◌, eqb-true, true≢false}
 use Rattle.std.specs.List.{list_all}
 use Rattle.std.specs.Option.{option_map_or}
 use Rattle.std.proofs.lemmas.Bool.{and_parts, and_from}
@@ -28,7 +28,7 @@ use Rattle.jsp_model.specs.Steps.{after_ask, is_too_long, after_grant, change, n
 use Rattle.jsp_laws.proofs.Lists.{Each, Has, each_weaker, each_filter, each_map, each_update, each_touched, each_append, each_flat, each_has, each_itself, found_has, fold_keeps}
 use Rattle.jsp_laws.proofs.Sound.{after_giving}
 use Rattle.jsp_quiet.specs.Waking.{is_marked}
-use Rattle.jsp_quiet.specs.Freeing.{frees, ask_frees, ask_frees_any, frees_any, WasThere}
+use Rattle.jsp_quiet.specs.Freeing.{would_vote_not_changed, frees, ask_frees, ask_frees_any, frees_any, WasThere}
 use Rattle.jsp_quiet.proofs.Still.{wanted, free_for}
 use Rattle.jsp_quiet.proofs.Spaces.{joining}
 use Rattle.jsp_quiet.proofs.Placed.{choose}
@@ -179,17 +179,20 @@ from_commit st x =
     (record { classes = refl; rows = kept_comes st (is_marked x) (committed x st.rows) (kept_committed st x) })
 
 -- a vote lets rows of its own space go
-from_vote : (st : State) (x space : ℕ) (o : Option Joined) → joined_at st x space ≡ o → From st (frees (step.Vote x space)) (option_map_or (cast st x) o st)
-from_vote st x space None k = from_none st (frees (step.Vote x space))
+from_vote : (st : State) (x space : ℕ) (o : Option Joined) → joined_at st x space ≡ o → From st (frees st (step.Vote x space)) (option_map_or (cast st x) o st)
+from_vote st x space None k = from_none st (frees st (step.Vote x space))
 from_vote st x space (Some j) k =
     let v = is_not_changed (vote_of st x j) in
-    let o : Row → Bool = frees (step.Vote x space) in
+    let o : Row → Bool = frees st (step.Vote x space) in
+    let unchanged : (b : Bool) → v ≡ b → would_vote_not_changed st x space ≡ b = λ b e. ap (λ o. option_map_or (λ (j : Joined). is_not_changed (vote_of st x j)) o false) k ∙ e in
     let here : j.space ≡ space = eqb-true j.space space (found_has (λ (j : Joined). j.space == space) (joined_of st x) j k).1 in
     record {
       classes = refl;
       rows = kept_comes st o _
           (each_update (Kept st o) (Kept st o) (λ row. v && row.space == j.space) (unread x)
-          (λ r e c. kept_unread st o x r (λ m. and_from (r.space == space) (is_marked x r) (subst (λ s. (r.space == s) ≡ true) here (and_parts v (r.space == j.space) e).1) (by_reader x r m)) c)
+          (λ r e c. kept_unread st o x r
+          (λ m. and_from (would_vote_not_changed st x space) (r.space == space && is_marked x r) (unchanged true (and_parts v (r.space == j.space) e).0)
+          (and_from (r.space == space) (is_marked x r) (subst (λ s. (r.space == s) ≡ true) here (and_parts v (r.space == j.space) e).1) (by_reader x r m))) c)
           (λ r e c. c) st.rows (kept_all st o));
     }
 
@@ -300,7 +303,7 @@ from_granted : (st : State) (n : ℕ) (ns : List ℕ) (o : Option Blocked) → F
 from_granted st n ns None = from_none st no_row
 from_granted st n ns (Some b) = let h : From st no_row (give st b ns) = from_give st no_row st b ns (from_none st no_row) in record { classes = h.classes; rows = h.rows }
 
-from_change : (st : State) (act : Step) → frees_any act ≡ false → From st (frees act) (change st act)
+from_change : (st : State) (act : Step) → frees_any act ≡ false → From st (frees st act) (change st act)
 from_change st (step.Open s) e = record { classes = refl; rows = stood st no_row }
 from_change st (step.Shut s) e = record { classes = refl; rows = stood st no_row }
 from_change st (step.Clock t) e = record { classes = refl; rows = stood st no_row }
@@ -317,14 +320,14 @@ from_change st (step.HandOut s m) e = from_none st no_row
 pub free_comes : (st : State) (act : Step) (b : Blocked) (row : Row) → frees_any act ≡ false → Has (next st act).rows row → is_available (next st act) b row ≡ true → (st.next_number ≤ row.number) ⊎ WasThere st act b row
 unfolding next
 free_comes st act b row e h a =
-    let f : From st (frees act) (change st act) = from_change st act e in
+    let f : From st (frees st act) (change st act) = from_change st act e in
     let free : free_for st.classes b row ≡ true = subst (λ classes. free_for classes b row ≡ true) f.classes a in
-    go free (each_has (Comes st (frees act)) (change st act).rows row f.rows h)
+    go free (each_has (Comes st (frees st act)) (change st act).rows row f.rows h)
   where
-    was : (c : Came st (frees act) row) → free_for st.classes b row ≡ true → ((frees act c.was ≡ true) ⊎ ((b : Blocked) → free_for st.classes b row ≡ true → free_for st.classes b c.was ≡ true)) → WasThere st act b row
+    was : (c : Came st (frees st act) row) → free_for st.classes b row ≡ true → ((frees st act c.was ≡ true) ⊎ ((b : Blocked) → free_for st.classes b row ≡ true → free_for st.classes b c.was ≡ true)) → WasThere st act b row
     was c k (inl m) = record { was = c.was; there = c.there; number = c.number; free = inl m }
     was c k (inr g) = record { was = c.was; there = c.there; number = c.number; free = inr (g b k) }
 
-    go : free_for st.classes b row ≡ true → Comes st (frees act) row → (st.next_number ≤ row.number) ⊎ WasThere st act b row
+    go : free_for st.classes b row ≡ true → Comes st (frees st act) row → (st.next_number ≤ row.number) ⊎ WasThere st act b row
     go k (inl l) = inl l
     go k (inr c) = inr (was c k c.free)

@@ -1,5 +1,6 @@
 -- Which rows a step lets go. Only they and new rows can be given to a request that couldn't be given them before.
-use Rattle.std.specs.Prelude.{◌≡◌, ◌⊎◌, Bool, true, false, ◌&&◌, ◌==◌, IsTrue}
+use Rattle.std.specs.Prelude.{◌≡◌, ◌⊎◌, ℕ, Bool, true, false, ◌&&◌, ◌==◌, IsTrue}
+use Rattle.std.specs.Option.{option_map_or}
 use Rattle.jsp_wire.specs.declared.ask.Ask.{Ask}
 use Rattle.jsp_wire.specs.declared.ask.Ask.TheVariants as ask
 use Rattle.jsp_model.specs.declared.state.State.{State}
@@ -7,7 +8,8 @@ use Rattle.jsp_model.specs.declared.state.Row.{Row}
 use Rattle.jsp_model.specs.declared.state.Blocked.{Blocked}
 use Rattle.jsp_model.specs.declared.step.Step.{Step}
 use Rattle.jsp_model.specs.declared.step.Step.TheVariants as step
-use Rattle.jsp_model.specs.Lookup.{named}
+use Rattle.jsp_model.specs.Lookup.{named, joined_at}
+use Rattle.jsp_model.specs.Changes.{vote_of, is_not_changed}
 use Rattle.jsp_model.specs.Sight.{is_available}
 use Rattle.jsp_laws.proofs.Lists.{Has}
 use Rattle.jsp_quiet.specs.Waking.{is_marked}
@@ -18,13 +20,18 @@ ask_frees (ask.Cancel lease) row = is_marked (named lease) row
 ask_frees (ask.Abort x) row = is_marked (named x) row
 ask_frees _ row = false
 
--- the step may take a mark from the row: one of the transaction that ends, or for which the row's space votes
-abbrev pub frees : Step → Row → Bool
-frees (step.Ask s asked rows) row = ask_frees asked.ask row
-frees (step.Due item) row = is_marked item.number row
-frees (step.Vote x space) row = row.space == space && is_marked x row
-frees (step.Decide x commits) row = is_marked x row
-frees _ row = false
+-- the space would vote that nothing is changed, and so forget what the transaction read there
+abbrev pub would_vote_not_changed : State → ℕ → ℕ → Bool
+would_vote_not_changed st x space = option_map_or (λ j. is_not_changed (vote_of st x j)) (joined_at st x space) false
+
+-- the step may take a mark from the row: one of the transaction that ends, or that changed nothing in the row's space,
+-- which votes
+abbrev pub frees : State → Step → Row → Bool
+frees st (step.Ask s asked rows) row = ask_frees asked.ask row
+frees st (step.Due item) row = is_marked item.number row
+frees st (step.Vote x space) row = would_vote_not_changed st x space && (row.space == space && is_marked x row)
+frees st (step.Decide x commits) row = is_marked x row
+frees st _ row = false
 
 -- of this request that isn't said row by row: a class is declared, or several leases are cancelled together
 abbrev pub ask_frees_any : Ask → Bool
@@ -42,4 +49,4 @@ pub record WasThere (st : State) (act : Step) (b : Blocked) (row : Row) : Type 0
   pub was : Row
   pub there : Has st.rows was
   pub number : was.number ≡ row.number
-  pub free : IsTrue (frees act was) ⊎ IsTrue (is_available st b was)
+  pub free : IsTrue (frees st act was) ⊎ IsTrue (is_available st b was)

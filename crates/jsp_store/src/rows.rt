@@ -318,6 +318,15 @@ impl Rows {
         }
     }
 
+    /// How many numbers `held_by` would answer, in the time that the spaces of the transaction take; none where
+    /// rows are looked at one by one.
+    pub fn held_count(&self, x: u64, space: Option<u64>) -> usize {
+        match &self.kept {
+            Kept::Scanned(_) => 0,
+            Kept::Hinted(rows) => rows.held_count(x, space),
+        }
+    }
+
     /// Numbers among which are those of all rows that the transaction wrote, took or read, in a
     /// space or, where none is named, in all.
     pub fn held_by(&self, alloc: Global, x: u64, space: Option<u64>) -> Result<Vec<u64>, NoMemory>

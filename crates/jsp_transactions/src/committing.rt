@@ -6,7 +6,7 @@ ghost use Rattle.jsp_transactions.specs.Owing.{with_news};
 use crate::aborting::{forget, leave_active};
 use jsp_core::Core;
 use jsp_model::Commit;
-use jsp_types::NoMemory;
+use jsp_types::{Items, NoMemory};
 use std::alloc::Global;
 
 /// The session's request of this id asks for the commit. From then on the transaction is voting: its
@@ -40,14 +40,14 @@ pub fn commit(alloc: Global, state: &mut Core, x: u64) -> Result<(), NoMemory>
     ensures ok { OnOk result (state.new ≡ after_commit state.old x) }
     ensures err { OnErr result (state.new ≡ state.old) }
 {
-    owe_published(alloc, state, x)?;
+    record_news(alloc, state, x)?;
     let rows = &mut state.rows;
     rows.commit(x);
     forget(state, x);
     Ok(())
 }
 
-fn owe_published(alloc: Global, state: &mut Core, x: u64) -> Result<(), NoMemory>
+fn record_news(alloc: Global, state: &mut Core, x: u64) -> Result<(), NoMemory>
     ensures ok { OnOk result (state.new ≡ with_news state.old x) }
     ensures err { OnErr result (state.new ≡ state.old) }
 {
@@ -56,5 +56,5 @@ fn owe_published(alloc: Global, state: &mut Core, x: u64) -> Result<(), NoMemory
     }
     let published = state.rows.published(alloc, x)?;
     let registrations = &mut state.registrations;
-    registrations.owe_all(&state.classes, published.as_slice(), None)
+    registrations.record(&state.classes, Items::from_vec(published))
 }

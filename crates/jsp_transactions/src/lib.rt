@@ -25,4 +25,4 @@ pub use committing::{ask_commit, commit};
 pub use joining::{Joining, join, leave};
 pub use removing::remove;
 pub use resetting::reset;
-pub use voting::cast_vote;
+pub use voting::{cast_vote, would_vote_not_changed};

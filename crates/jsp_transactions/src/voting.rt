@@ -1,6 +1,8 @@
 //! The votes of joined spaces. Nothing here takes memory.
-ghost use Rattle.std.specs.Prelude.{◌≡◌};
-ghost use Rattle.jsp_model.specs.Changes.{cast as after_cast, cast_vote as after_vote, vote_of as voted, has_changed as changes};
+ghost use Rattle.std.specs.Prelude.{◌≡◌, false};
+ghost use Rattle.std.specs.Option.{option_map_or};
+ghost use Rattle.jsp_model.specs.Changes.{cast as after_cast, cast_vote as after_vote, vote_of as voted, has_changed as changes, is_not_changed};
+ghost use Rattle.jsp_model.specs.Lookup.{joined_at as joined_in};
 
 use jsp_core::Core;
 use jsp_model::{Joined, Vote};
@@ -18,6 +20,16 @@ pub fn cast_vote(state: &mut Core, x: u64, space: u64)
             let joined = *joined;
             cast(state, x, joined);
         }
+    }
+}
+
+/// Whether the space joined the transaction and would vote that nothing is changed.
+pub fn would_vote_not_changed(state: &Core, x: u64, space: u64) -> bool
+    ensures { result ≡ option_map_or (λ j. is_not_changed (voted state.now x j)) (joined_in state.now x space) false }
+{
+    match joined_at(state, x, space) {
+        None => false,
+        Some(joined) => matches!(vote_of(state, x, *joined), Vote::NotChanged),
     }
 }
 

@@ -3,6 +3,7 @@ ghost use Rattle.std.specs.Prelude.{◌≡◌, ◌++◌, ◌∷◌, ◌⊎◌, N
 ghost use Rattle.jsp_types.specs.Classes.{class_fault, class_of, declared};
 
 use crate::known::Known;
+use crate::shared::Shared;
 use crate::{Class, Classes, DeclareError, Items, Kind, NoMemory, Text};
 use std::alloc::Global;
 
@@ -42,6 +43,25 @@ fn joined(
     Ok(fields)
 }
 
+/// What is kept of the class.
+fn known_of(
+    alloc: Global,
+    class: Class,
+    line: Items<Text>,
+    fields: Items<(Text, Kind)>,
+) -> Result<Shared, NoMemory>
+    ensures { IfOk result (λ k. k ≡ (record { class = class; line = line; fields = fields })) }
+{
+    Shared::new(
+        alloc,
+        Known {
+            class,
+            line,
+            fields,
+        },
+    )
+}
+
 impl Classes {
     /// Adds a class that isn't refused, or none where it is declared alike already. On `Err` nothing is
     /// changed.
@@ -55,11 +75,8 @@ impl Classes {
         }
         let line = line_from(self.alloc, &class.name, self.line_above(&class))?;
         let fields = joined(self.alloc, self.inherited(&class), class.fields.as_slice())?;
-        self.known.push(Known {
-            class,
-            line,
-            fields,
-        })?;
+        let known = known_of(self.alloc, class, line, fields)?;
+        self.known.push(known)?;
         Ok(())
     }
 

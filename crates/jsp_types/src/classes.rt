@@ -3,6 +3,7 @@ ghost use Rattle.std.specs.Prelude.{◌≡◌, ◌==◌, if◌then◌else◌, []
 ghost use Rattle.jsp_types.specs.Classes.{class_named, is_declared, is_sub, line_of, declared_fields, is_within_limits};
 
 use crate::known::Known;
+use crate::shared::Shared;
 use crate::{Items, Kind, NoMemory, Text};
 use std::alloc::Global;
 use std::marker::Model;
@@ -11,7 +12,7 @@ use std::marker::Model;
 #[derive(Drop)]
 pub struct Classes {
     pub(crate) alloc: Global,
-    pub(crate) known: Items<Known>,
+    pub(crate) known: Items<Shared>,
 }
 
 impl Model for Classes {
@@ -38,17 +39,26 @@ impl Clone for Classes {
 }
 
 /// A copy.
-fn copy_of(known: &Items<Known>) -> Result<Items<Known>, NoMemory>
+fn copy_of(known: &Items<Shared>) -> Result<Items<Shared>, NoMemory>
     ensures { IfOk result (λ copy. copy ≡ known.now) }
 {
     known.clone()
 }
 
 /// The first of that name.
-fn find_known<'a>(known: &'a [Known], name: &str) -> Option<&'a Known>
+fn find_known<'a>(known: &'a [Shared], name: &str) -> Option<&'a Known>
     ensures { option_copied result ≡ find (λ k. bytes_eq k.class.name name.now) known.now }
 {
-    known.iter().find(|known| known.class.name.is(name))
+    match find_shared(known, name) {
+        None => None,
+        Some(shared) => Some(shared.get()),
+    }
+}
+
+fn find_shared<'a>(known: &'a [Shared], name: &str) -> Option<&'a Shared>
+    ensures { option_copied result ≡ find (λ k. bytes_eq k.class.name name.now) known.now }
+{
+    known.iter().find(|shared| shared.is_of(name))
 }
 
 impl Classes {

@@ -18,6 +18,7 @@ mod items;
 mod known;
 mod matching;
 mod names;
+mod shared;
 mod sorting;
 mod text;
 mod value;

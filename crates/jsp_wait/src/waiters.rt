@@ -179,6 +179,14 @@ impl Waiters {
         }
     }
 
+    /// How many wait, or more, told at once.
+    pub fn most_waiting(&self) -> usize {
+        match &self.kept {
+            Kept::Scanned(requests) => requests.len(),
+            Kept::Keyed(requests) => requests.places().len(),
+        }
+    }
+
     /// The request of this number.
     pub fn get(&self, number: u64) -> Option<&Blocked>
         ensures { option_copied result ≡ find (λ b. b.number == number) self.now }

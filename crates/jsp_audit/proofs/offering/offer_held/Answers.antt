@@ -15,4 +15,7 @@ returns-in-Ok-clause-held c =
     (λ n e. c.add_all.ensures.added n (subst (λ (ns : List ℕ). contains ns n ≡ true) (sym c.as_slice.ensures.value) e))
 
 pub returns-in-Err-clause-held : goal.returns-in-Err-clause-held
-returns-in-Err-clause-held c = all_opened (is_unmarked c.args.unmarking) c.open.new.self c.args.state.now.rows c.open.ensures
+returns-in-Err-clause-held c = all_opened (is_unmarked c.args.unmarking) c.open-in-Err.new.self c.args.state.now.rows c.open-in-Err.ensures
+
+pub returns-then-are_many-clause-held : goal.returns-then-are_many-clause-held
+returns-then-are_many-clause-held c = all_opened (is_unmarked c.args.unmarking) c.open.new.self c.args.state.now.rows c.open.ensures

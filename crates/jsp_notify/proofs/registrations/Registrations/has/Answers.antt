@@ -1,10 +1,12 @@
-use Rattle.std.proofs.Common.{◌≡◌, ◌∙◌, ap, rules}
-use Rattle.std.specs.Prelude.{is_some, option_copied, ◌==◌}
+use Rattle.std.proofs.Common.{◌∙◌, ap, sym}
+use Rattle.std.specs.Prelude.{◌==◌}
+use Rattle.std.specs.List.{list_any}
 use Rattle.jsp_model.specs.declared.state.Registration.{Registration}
-use Rattle.jsp_keyed.proofs.Placed.{any_is}
+use Rattle.jsp_notify.specs.News.{hearing}
+use Rattle.jsp_notify.proofs.Hearing.{any_after}
 use Rattle.jsp_notify.proofs.registrations.Registrations.has.Goals as goal
 
 pub returns : goal.returns
 returns c =
-    let some : c.is_some.result ≡ is_some (option_copied c.get.result) = search rules in
-    some ∙ (ap is_some c.get.ensures ∙ any_is (λ (r : Registration). r.number == c.args.number) c.args.self.now)
+    let self = c.self.inside in
+    c.has.ensures ∙ (sym (any_after (hearing self.news) (λ (r : Registration). r.number == c.args.number) self.heard) ∙ ap (list_any (λ (r : Registration). r.number == c.args.number)) c.self.view_is)

@@ -1,5 +1,5 @@
 use Rattle.std.proofs.Common.{◌≡◌, ◌++◌, length, reverse}
-use Rattle.jsp_notify.proofs.registrations.Registrations.of.Given as goal
+use Rattle.jsp_notify.proofs.heard.Heard.of.Given as goal
 
 abbrev pub invariant-registrations : goal.invariant-registrations
 invariant-registrations l = l.made ++ reverse l.registrations.items ≡ l.fn.registrations
