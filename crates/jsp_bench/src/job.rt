@@ -7,7 +7,7 @@ use crate::served::served;
 use crate::watchers::watchers_script;
 use crate::workers::workers_script;
 use jsp_model::Config;
-use jsp_serve::{Options, Seeds, Status, script};
+use jsp_script::{Options, Seeds, Status, script};
 use jsp_types::{Items, NoMemory, Text};
 use std::alloc::{AllocError, Global};
 use std::sync::Wait;

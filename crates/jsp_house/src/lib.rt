@@ -20,11 +20,13 @@ mod making;
 mod owing;
 mod performing;
 mod quieting;
+mod seeds;
 mod settling;
 mod state_house;
 mod to_come;
 mod unquiet;
 
+pub use seeds::Seeds;
 pub use state_house::{Hall, RowsHouse, StateHouse};
 
 // What is asked of a history beside a house, so that its callers name one crate.

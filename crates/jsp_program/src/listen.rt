@@ -9,9 +9,8 @@ use crate::fault::Fault;
 use crate::room::find_room;
 use crate::standard::open_null_device;
 use clap::ArgMatches;
-use jsp_serve::{
-    Board, Bounds, Closed, Config, LineReport, Seeds, Service, Stop, serve, show_status,
-};
+use jsp_script::{Config, Seeds};
+use jsp_serve::{Board, Bounds, Closed, LineReport, Service, Stop, serve, show_status};
 use std::fs::{File, Files};
 use std::io::{self, ErrorKind, Read, Stdin, Write};
 use std::net::{Net, SocketAddr, TcpListener, TcpStream};

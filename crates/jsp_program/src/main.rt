@@ -1,4 +1,4 @@
-//! The command `jsp`: reads its arguments and hands the work to jsp_serve.
+//! The command `jsp`: reads its arguments and hands the work to jsp_script and jsp_serve.
 //!
 //! `jsp script NAME..` runs the script on standard input over the spaces NAME.. and prints each
 //! answer; with `--audit` it replays the run first, and compares it with what was sent, and with
@@ -21,7 +21,7 @@ use clap::ArgMatches;
 use clap::error::{Error, ErrorKind};
 use client::Shell;
 use fault::Fault;
-use jsp_serve::{Config, Options, Seeds, script};
+use jsp_script::{Config, Options, Seeds, script};
 use jsp_shell::Typing;
 use listen::{End, Server, Window};
 use spaces::config;

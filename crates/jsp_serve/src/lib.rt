@@ -1,39 +1,22 @@
-//! What the program does, as a library.
+//! A server: each connection of a listener is a line of one house (jsp_floor).
 //!
-//! `script` runs a script: lines that open a session, send it a payload or bytes, shut it, read the
-//! clock, or give the house a turn. It reads them all, drives an empty house by them (jsp_drive), and
-//! prints each frame that is sent as a line of its own. Its contract reaches from the script's bytes to the printed ones,
-//! over any reader and writer that say which they hold: the acts are those that the lines ask for
-//! (`specs/Script.antt`), and what is written are the lines of one legal run that belongs to these
-//! acts (`specs/Print.antt`). A script that is too long or has a line that isn't understood is
-//! refused whole, and nothing is written. One line tells why a script failed, and none is written
-//! where it didn't (`specs/Faults.antt`). Where it is asked to, it replays the run before it prints, and
-//! compares what that says with what was sent; that they never differ is proved.
+//! `serve` accepts connections until it is stopped, gives each a line on a thread of its own, and the
+//! house its turns. What is answered is what `run_house` of jsp_floor says; here are the sockets, how
+//! long a connection may be idle (`idle.rt`), and where a connection's thread ends. `show_status` shows
+//! on a page, over HTTP, what is posted on a `Board` (jsp_status).
 #![tactic(auto)]
 
-mod audit;
 mod board;
 mod connections;
-mod fault;
 mod idle;
-mod line;
-mod lines;
 mod link;
-mod print;
-mod run;
-mod seeds;
 mod server;
 mod show;
 mod stop;
-mod streams;
 mod visit;
-mod writing;
 
 pub use board::Board;
 pub use jsp_floor::{Bounds, Closed, LineReport, RunFault};
-pub use jsp_model::Config;
-pub use run::{Ending, Options, Status, script};
-pub use seeds::Seeds;
 pub use server::{Service, serve};
 pub use show::show_status;
 pub use stop::Stop;

@@ -4,10 +4,9 @@ ghost use Rattle.jsp_closing.specs.Closing.{Closes};
 
 use crate::board::Board;
 use crate::connections::Connections;
-use crate::seeds::Seeds;
 use crate::stop::Stop;
 use jsp_floor::{Bounds, Clock, Closed, Counts, Gate, RunFault, run_house};
-use jsp_house::Hall;
+use jsp_house::{Hall, Seeds};
 use jsp_model::Config;
 use jsp_status::{RefusalCount, SpaceStatus, Status};
 use std::alloc::{AllocError, Global};

@@ -1,6 +1,0 @@
-use Rattle.std.proofs.Common.{take}
-use Rattle.jsp_serve.specs.Audit.{Has, frames_to}
-use Rattle.jsp_serve.proofs.streams.streams_said.Given as goal
-
-abbrev pub invariant-said : goal.invariant-said
-invariant-said l = Has l.streams (λ s. frames_to s (take l.session-index l.said))

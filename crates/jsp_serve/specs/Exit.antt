@@ -1,8 +1,0 @@
--- What the shell is told of how a script ended.
-use Rattle.std.specs.Prelude.{ℕ}
-use Rattle.jsp_serve.specs.declared.run.Status.{Status}
-use Rattle.jsp_serve.specs.declared.run.Status.TheVariants.{Done, Failed}
-
-abbrev pub exit_of : Status → ℕ
-exit_of Done = 0
-exit_of Failed = 1
