@@ -6,8 +6,9 @@ use crate::lookups::lookups_script;
 use crate::served::served;
 use crate::watchers::watchers_script;
 use crate::workers::workers_script;
+use jsp_house::{Hall, Seeds};
 use jsp_model::Config;
-use jsp_script::{Options, Seeds, Status, script};
+use jsp_script::{Status, script};
 use jsp_types::{Items, NoMemory, Text};
 use std::alloc::{AllocError, Global};
 use std::sync::Wait;
@@ -91,18 +92,17 @@ fn config(alloc: Global) -> Result<Option<Config>, NoMemory> {
 }
 
 fn scripted(alloc: Global, config: &Config, audits: bool, text: &str) -> Option<Digest> {
-    let options = Options {
-        audits,
-        scans: false,
-        seeds: Seeds::known(),
-    };
+    let seeds = Seeds::known();
+    let house = Hall::new(alloc, config, seeds.house);
+    let replay = if audits { Some(seeds.replay) } else { None };
     let mut input = text.as_bytes();
     let mut printed = Digest::EMPTY;
     let mut faults = Digest::EMPTY;
     let ending = script(
         alloc,
+        house,
         config,
-        options,
+        replay,
         &mut input,
         &mut printed,
         &mut faults,

@@ -3,6 +3,7 @@ use jsp_audit::ReplayFault;
 use jsp_drive::Ended;
 use jsp_model::Step;
 use jsp_types::NoMemory;
+use thiserror::Error;
 
 /// What a line read and wrote.
 #[derive(Drop)]
@@ -34,13 +35,16 @@ pub enum Closed {
 }
 
 /// Why a run failed.
-#[derive(Clone, Copy, Debug, PartialEq, Eq)]
+#[derive(Clone, Copy, Debug, Drop, Error, PartialEq, Eq)]
 pub enum RunFault {
     /// A growth was refused.
+    #[error("out of memory")]
     NoMemory,
     /// A thread wasn't started, the door failed, or there were no more numbers for sessions.
+    #[error("no more lines can be begun")]
     Spawn,
     /// What should be the same differs.
+    #[error("the history differs from what the lines read and wrote")]
     Audit,
 }
 

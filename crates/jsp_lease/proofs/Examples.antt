@@ -1,12 +1,11 @@
 -- Worked examples.
-use Rattle.std.specs.Prelude.{◌≡◌, refl, ℕ, ◌+◌, pos, negsuc, [], ◌∷◌, Some, None, Err}
+use Rattle.std.specs.Prelude.{◌≡◌, refl, ℕ, ◌+◌, pos, negsuc, [], ◌∷◌, Some, None}
 use Rattle.jsp_lease.specs.declared.item.Item.{Item}
 use Rattle.jsp_lease.specs.declared.item.Rank.{Rank}
 use Rattle.jsp_lease.specs.declared.item.Rank.TheVariants as rank
-use Rattle.jsp_lease.specs.declared.fault.LeaseFault.TheVariants.{UnknownLease, BadLease}
 use Rattle.jsp_lease.specs.Due.{first_item, over_by}
 use Rattle.jsp_lease.specs.Granted.{granted, ms_of}
-use Rattle.jsp_lease.specs.Leases.{item_numbered, ending_at, without, renewal}
+use Rattle.jsp_lease.specs.Leases.{ending_at, without}
 
 abbrev ends : ℕ → Rank → ℕ → Item
 ends end rank number = record { end = end; rank = rank; number = number }
@@ -44,12 +43,6 @@ lease_of_nothing_due_at_once = refl
 -- at 2000, where it would have ended at 10000
 pub renewed_from_now : ending_at 1 (2000 + ms_of (pos 300)) (ends 10000 rank.Entry 1 ∷ ends 9000 rank.Entry 2 ∷ []) ≡ ends 2300 rank.Entry 1 ∷ ends 9000 rank.Entry 2 ∷ []
 renewed_from_now = refl
-
-pub unknown_before_bad : renewal (item_numbered 3 (ends 10 rank.Entry 1 ∷ [])) (granted (negsuc 1)) ≡ Err UnknownLease
-unknown_before_bad = refl
-
-pub bad_renewal : renewal (item_numbered 1 (ends 10 rank.Entry 1 ∷ [])) (granted (negsuc 1)) ≡ Err BadLease
-bad_renewal = refl
 
 pub cancelled_is_not_due : first_item (over_by 99 (without 1 (ends 10 rank.Entry 1 ∷ ends 20 rank.Entry 2 ∷ []))) ≡ Some (ends 20 rank.Entry 2)
 cancelled_is_not_due = refl

@@ -1,10 +1,8 @@
 -- The leases as a reader draws them, and what becomes of them.
-use Rattle.std.specs.Prelude.{◌≡◌, ℕ, ◌+◌, ◌≤◌, Bool, not, if◌then◌else◌, ◌==◌, List, [], ◌∷◌, ◌++◌, map, filter, find, Option, Some, None, Result, Ok, Err}
+use Rattle.std.specs.Prelude.{◌≡◌, ℕ, ◌+◌, ◌≤◌, Bool, not, if◌then◌else◌, ◌==◌, List, [], ◌∷◌, ◌++◌, map, filter, find, Option}
 use Rattle.std.specs.List.{All}
 use Rattle.std.specs.List.Sorted.{IsStrictlyIncreasing}
 use Rattle.jsp_lease.specs.declared.item.Item.{Item}
-use Rattle.jsp_lease.specs.declared.fault.LeaseFault.{LeaseFault}
-use Rattle.jsp_lease.specs.declared.fault.LeaseFault.TheVariants.{UnknownLease, BadLease}
 
 -- the items in rising order of their numbers, the last number that was given, and how many items
 -- can be added before memory is asked for
@@ -28,12 +26,6 @@ ending_at number end items = map (λ i. if is_numbered number i then record i { 
 
 abbrev pub without : ℕ → List Item → List Item
 without number items = filter (λ i. not (is_numbered number i)) items
-
--- what a renewal answers: an unknown lease comes before a bad one
-abbrev pub renewal : Option Item → Option ℕ → Result ℕ LeaseFault
-renewal None given = Err UnknownLease
-renewal (Some item) None = Err BadLease
-renewal (Some item) (Some given) = Ok given
 
 -- the numbers rise, up to the last one
 pub record AreNumbered (leases : Leased) : Type 0 where

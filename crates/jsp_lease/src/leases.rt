@@ -1,20 +1,20 @@
 //! The items of a house, by number and by end.
-ghost use Rattle.std.specs.Prelude.{◌≡◌, ◌+◌, ◌-◌, ◌^◌, ◌<◌, ◌≤◌, ◌↔◌, [], ◌++◌, IsOk, IsSome, IfOk, OnOk, OnErr, IfNone, IfSome, ok_or, length, vec_capacity, map, replicate};
+ghost use Rattle.std.specs.Prelude.{◌≡◌, ◌+◌, ◌-◌, ◌^◌, ◌<◌, ◌≤◌, [], ◌++◌, IsOk, IfOk, OnOk, OnErr, IfNone, IfSome, ok_or, length, vec_capacity, map, replicate};
 ghost use Rattle.jsp_lease.specs.declared.item.Item.{Item};
 ghost use Rattle.jsp_lease.specs.Leases.{item_numbered};
 ghost use Rattle.jsp_lease.specs.Places.{AreKept, StandsAt};
 ghost use Rattle.jsp_lease.specs.Tournament.{living};
 
 use crate::tournament::Tournament;
-use crate::{GrantFault, Item, LeaseFault, NoMemory, Rank, granted};
+use crate::{Item, LeaseFault, NoMemory};
 use std::alloc::Global;
 use std::marker::Model;
 
 /// The items of a house, found by number and by end.
 ///
 /// Contracts see the items in rising order of their numbers, the last number that was given, and
-/// the room: how many items can be added before memory is asked for. An item is renewed or
-/// cancelled whatever its rank is; whether its number may be used so is for the caller to know.
+/// the room: how many items can be added before memory is asked for. An item ends otherwise or
+/// goes whatever its rank is; whether its number may be used so is for the caller to know.
 ///
 /// Each number keeps its place in a table once its item has gone, so that a place is found by a
 /// binary search. Where the table is full, the next item moves those that are left to a new one, with
@@ -52,8 +52,7 @@ const TOO_MANY_NEW: usize = 1 << 48;
 
 impl Leases {
     ghost use Rattle.jsp_lease.specs.Due.{first_item, over_by};
-    ghost use Rattle.jsp_lease.specs.Granted.{granted as granted_of};
-    ghost use Rattle.jsp_lease.specs.Leases.{with_items, ending_at, without, renewal, AreNumbered, Adds, HasRoomFor};
+    ghost use Rattle.jsp_lease.specs.Leases.{with_items, ending_at, without, AreNumbered, Adds, HasRoomFor};
 
     /// No items, and no number given. It takes no memory.
     pub fn new(alloc: Global) -> Leases
@@ -72,32 +71,6 @@ impl Leases {
         ensures numbered { AreNumbered self.now }
     {
         self.last
-    }
-
-    /// Grants a lease of the asked time in milliseconds, from the time of the house on, and answers
-    /// what it grants. The number is above all that were given, and the time at most 2^62 ms, so
-    /// the end is at most 2^62 + 3,600,000.
-    ///
-    /// `BadLease` where nothing is granted (this profile's own), and `NoMemory`, which doesn't come
-    /// while there is room. Either leaves all as it was.
-    pub fn grant(&mut self, number: u64, rank: Rank, time: u64, ms: i64) -> Result<u64, GrantFault>
-        requires later { self.old.last < number }
-        requires in_time { time ≤ 2 ^ 62 }
-        ensures refused { (result ≡ Err GrantFault.BadLease) ↔ (granted_of ms ≡ None) }
-        ensures ok { IfOk result (λ given. (granted_of ms ≡ Some given) × Adds self.old
-            (record { end = time + given; rank = rank; number = number }) self.new) }
-        ensures err { OnErr result (self.new ≡ self.old) }
-        ensures roomy { 0 < self.old.room → IsSome (granted_of ms) → IsOk result }
-    {
-        let Some(given) = granted(ms) else {
-            return Err(GrantFault::BadLease);
-        };
-        self.place(Item {
-            end: time + given,
-            rank,
-            number,
-        })?;
-        Ok(given)
     }
 
     /// Adds an item whose end is known, which may be any time. The number is above all that were
@@ -149,31 +122,6 @@ impl Leases {
             tournament: tournament_of(alloc, items.as_slice(), places)?,
             last: self.last,
         })
-    }
-
-    /// Renews a lease: it ends after the asked time in milliseconds from the time of the house on,
-    /// as granted, whatever was left of it (Jini Leasing). Answers what it grants. The time is at
-    /// most 2^62 ms. It takes no memory.
-    ///
-    /// `UnknownLease` comes before `BadLease`, where nothing is granted (this profile's own).
-    /// Either leaves all as it was.
-    pub fn renew(&mut self, number: u64, time: u64, ms: i64) -> Result<u64, LeaseFault>
-        requires { time ≤ 2 ^ 62 }
-        ensures answer { result ≡ renewal (item_numbered number self.old.items) (granted_of ms) }
-        ensures ok { IfOk result (λ given. self.new
-            ≡ with_items self.old (ending_at number (time + given) self.old.items)) }
-        ensures err { OnErr result (self.new ≡ self.old) }
-    {
-        let numbers = self.numbers.as_slice();
-        let Some((place, item)) = find_place(numbers, &self.tournament, number) else {
-            return Err(LeaseFault::UnknownLease);
-        };
-        let Some(given) = granted(ms) else {
-            return Err(LeaseFault::BadLease);
-        };
-        let end = time + given;
-        self.tournament.set(place, Some(Item { end, ..item }));
-        Ok(given)
     }
 
     /// The item of this number ends then, which may be any time. Where there is none, all stays as it

@@ -10,6 +10,7 @@ use crate::{Image, Step};
 use jsp_reply::{Refusal, Said};
 use jsp_types::NoMemory;
 use jsp_wire::Asked;
+use thiserror::Error;
 
 /// What happens to a house from outside.
 #[derive(Drop)]
@@ -38,15 +39,19 @@ pub enum Input {
 }
 
 /// Why a call was stopped.
-#[derive(Clone, Copy, Debug, PartialEq, Eq)]
+#[derive(Clone, Copy, Debug, Drop, Error, PartialEq, Eq)]
 pub enum Why {
     /// A growth was refused.
+    #[error("out of memory")]
     NoMemory,
     /// The log has reached the length that was set by `bound`.
+    #[error("the log is full")]
     EraFull,
     /// There are no more numbers for sessions. No house is stopped by it.
+    #[error("no more numbers for sessions")]
     Sessions,
     /// Two counts differ that should be the same. No house is stopped by it.
+    #[error("two counts differ")]
     Audit,
 }
 
@@ -63,7 +68,8 @@ impl From<NoMemory> for Why {
 
 /// A call that was stopped. The steps that it made stand in the log; `done` says whether its own
 /// step is among them.
-#[derive(Clone, Copy, Debug, PartialEq, Eq)]
+#[derive(Clone, Copy, Debug, Drop, Error, PartialEq, Eq)]
+#[error("stopped: {why}")]
 pub struct Stopped {
     pub why: Why,
     pub done: bool,

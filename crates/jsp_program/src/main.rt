@@ -13,20 +13,20 @@ mod client;
 mod fault;
 mod listen;
 mod room;
+mod script;
 mod spaces;
 mod standard;
 
-use arguments::{AUDIT, CLIENT, LISTEN, SCAN, command};
+use arguments::{CLIENT, LISTEN, command};
 use clap::ArgMatches;
 use clap::error::{Error, ErrorKind};
 use client::Shell;
 use fault::Fault;
-use jsp_script::{Config, Options, Seeds, script};
 use jsp_shell::Typing;
 use listen::{End, Server, Window};
+use script::Script;
 use spaces::config;
 use standard::open_standard;
-use std::alloc::Global;
 use std::env::Env;
 use std::fs::{File, Files};
 use std::io::{self, Stderr, Stdin, Stdout};
@@ -50,7 +50,7 @@ struct Streams {
 enum Job {
     /// Help, or what is wrong with the arguments, which has been told: this status.
     Told(ExitCode),
-    Script(Config, Options),
+    Script(Script),
     Listen(Server),
     Client(Shell),
 }
@@ -133,7 +133,7 @@ impl Job {
     /// What is to read standard input meanwhile.
     fn reader<R: Files<File = File>>(&self, rt: &R) -> Result<Option<Reader>, Fault> {
         match self {
-            Job::Told(_) | Job::Script(_, _) => Ok(None),
+            Job::Told(_) | Job::Script(_) => Ok(None),
             Job::Listen(server) => match server.end(rt)? {
                 Some(end) => Ok(Some(Reader::End(end))),
                 None => Ok(None),
@@ -149,7 +149,7 @@ impl Job {
     fn window(&self) -> Result<Option<Window>, Fault> {
         match self {
             Job::Listen(server) => server.window(),
-            Job::Told(_) | Job::Script(_, _) | Job::Client(_) => Ok(None),
+            Job::Told(_) | Job::Script(_) | Job::Client(_) => Ok(None),
         }
     }
 
@@ -160,7 +160,7 @@ impl Job {
     ) -> Result<ExitCode, Fault> {
         match self {
             Job::Told(status) => Ok(status),
-            Job::Script(config, options) => Ok(run_script(rt.alloc(), &config, options, streams)),
+            Job::Script(script) => Ok(script.run(rt.alloc(), streams)),
             Job::Listen(server) => server.serve(rt),
             Job::Client(shell) => shell.run(rt),
         }
@@ -200,15 +200,7 @@ fn read_job<
     let config = config(alloc, given)?;
     match kind {
         LISTEN => Ok(Job::Listen(Server::listen(rt, config, given)?)),
-        _ => {
-            let options = Options {
-                audits: given.get_flag(AUDIT),
-                scans: given.get_flag(SCAN),
-                // Whoever has no random number runs a script of somebody's all the same.
-                seeds: Seeds::random(rt).unwrap_or(Seeds::known()),
-            };
-            Ok(Job::Script(config, options))
-        }
+        _ => Ok(Job::Script(Script::new(rt, config, given))),
     }
 }
 
@@ -219,16 +211,6 @@ fn words<R: AllocGlobal + Env>(rt: &R) -> Result<Vec<String>, Fault> {
         Err(error) if matches!(error.kind(), io::ErrorKind::OutOfMemory) => Err(Fault::NoMemory),
         Err(_) => Err(Fault::Arguments),
     }
-}
-
-fn run_script(alloc: Global, config: &Config, options: Options, streams: Streams) -> ExitCode {
-    let Streams {
-        mut input,
-        mut out,
-        mut faults,
-    } = streams;
-    let ending = script(alloc, config, options, &mut input, &mut out, &mut faults);
-    ExitCode::from(ending.status)
 }
 
 /// Shows help, or what is wrong with the arguments.

@@ -2,7 +2,7 @@
 use crate::arguments::NAMES;
 use crate::fault::Fault;
 use clap::ArgMatches;
-use jsp_script::Config;
+use jsp_model::Config;
 use jsp_types::{Items, NoMemory, Text};
 use std::alloc::Global;
 use thiserror::Error;

@@ -4,18 +4,25 @@ ghost use Rattle.jsp_script.specs.declared.fault.ScriptFault.TheVariants as faul
 
 use jsp_types::NoMemory;
 use std::alloc::AllocFailed;
+use thiserror::Error;
 
 /// Why a script ends early. What a user is told of it is in `specs/Faults.antt`.
-#[derive(Clone, Copy, Debug, PartialEq, Eq)]
+#[derive(Clone, Copy, Debug, Drop, Error, PartialEq, Eq)]
 pub(crate) enum ScriptFault {
+    #[error("cannot read")]
     CannotRead,
     /// It is longer than 16,777,216 bytes.
+    #[error("input too long")]
     TooLong,
     /// The first line that isn't understood, counted from 1.
+    #[error("line {0}: not understood")]
     NotUnderstood(u64),
+    #[error("out of memory")]
     NoMemory,
     /// The steps are no run, or say something else than was sent. `script` never meets it.
+    #[error("the history doesn't replay")]
     DoesNotReplay,
+    #[error("cannot write")]
     CannotWrite,
 }
 

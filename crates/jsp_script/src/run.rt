@@ -1,10 +1,7 @@
 //! A script from its text to what is printed.
-ghost use Rattle.std.specs.Prelude.{◌≡◌, ◌≤◌, ◌^◌, ℕ, IfOk, IfErr, IfSome, OnOk, OnErr, flat_map, length};
+ghost use Rattle.std.specs.Prelude.{◌≡◌, ◌≤◌, ◌^◌, None, IfOk, IfErr, IfSome, OnOk, OnErr, length};
 ghost use Rattle.std.specs.Io.KnownBytes.{Appends, Keeps};
 ghost use Rattle.jsp_model.specs.Lookup.{empty};
-ghost use Rattle.jsp_model.specs.Runs.{IsRun, said_to};
-ghost use Rattle.jsp_drive.specs.Heard.{framed};
-ghost use Rattle.jsp_drive.specs.Tie.{IsTied, bytes_to};
 ghost use Rattle.jsp_script.specs.Script.{lines_of, FailsBy};
 ghost use Rattle.jsp_script.specs.Print.{Prints, Wrote, IsRefused};
 ghost use Rattle.jsp_script.specs.Faults.{AppendsSome, Fails, ReadsNone, StopsBy};
@@ -15,9 +12,8 @@ use crate::fault::ScriptFault;
 use crate::lines::read_acts;
 use crate::print::printed;
 use crate::writing::{tell, write_bytes};
-use jsp_drive::{Act, Driven, drive};
-use jsp_house::{Hall, RowsHouse, Seeds};
-use jsp_model::Config;
+use jsp_drive::drive;
+use jsp_model::{Config, House};
 use jsp_types::NoMemory;
 use std::alloc::Global;
 use std::io::{ErrorKind, Read, Write};
@@ -25,18 +21,6 @@ use std::process::ExitCode;
 
 /// The longest script, in bytes.
 const LONGEST: u64 = 16_777_216;
-
-/// How a script is run. None of these changes what is promised.
-#[derive(Clone, Copy, Debug, PartialEq, Eq)]
-pub struct Options {
-    /// Whether the run is replayed before anything is written, and compared with what was sent. That
-    /// takes time and memory.
-    pub audits: bool,
-    /// Whether each row is looked at in every search, instead of those that hints name. That takes
-    /// time.
-    pub scans: bool,
-    pub seeds: Seeds,
-}
 
 /// How a script ended.
 #[derive(Clone, Copy, Debug, PartialEq, Eq)]
@@ -69,7 +53,10 @@ impl From<Status> for ExitCode {
     }
 }
 
-/// Runs the script that `reader` gives, at most 16,777,216 bytes, over the spaces of `config`.
+/// Runs the script that `reader` gives, at most 16,777,216 bytes, over an empty house of the spaces of
+/// `config`. Where memory for the house was refused, that is told in its turn. Where a replay has a
+/// seed, the run is replayed with keys of that seed before anything is written, and compared with what
+/// was sent; that takes time and memory, and changes nothing of what is promised.
 ///
 /// A line is `open c`, `send c JSON`, `hex c HEX` or `shut c`: c is the decimal number of a session,
 /// below 2^64, one blank stands between parts, JSON is the rest of the line, and HEX is one or more
@@ -78,14 +65,17 @@ impl From<Status> for ExitCode {
 /// `out`, line by line in the order in which the answers are given. The first fault met is told on
 /// `faults` by one line. Where a line isn't understood or the input is too long, nothing is run. (This
 /// profile's own.)
-pub fn script<R: Read, W: Write, F: Write>(
+pub fn script<H: House, R: Read, W: Write, F: Write>(
     alloc: Global,
+    house: Result<H, NoMemory>,
     config: &Config,
-    options: Options,
+    replay: Option<u64>,
     reader: &mut R,
     out: &mut W,
     faults: &mut F,
 ) -> Ending
+    requires empty { IfOk house (λ h. H.view h ≡ empty config.now) }
+    requires unbound { IfOk house (λ h. H.bound_of h ≡ None) }
     ensures refused { IfSome (R.remaining reader.old) (λ text. IsRefused text → (result.status ≡ Status.Failed) × Keeps (W.contents out.old) (W.contents out.new)) }
     ensures done { result.status ≡ Status.Done → IfSome (R.remaining reader.old) (λ text. Wrote config.now text (W.contents out.old) (W.contents out.new)) }
     // No fault is told where all was done.
@@ -93,7 +83,7 @@ pub fn script<R: Read, W: Write, F: Write>(
     // A fault that applies is told by one line, where the script failed.
     ensures failed { result.status ≡ Status.Failed → Fails config.now (R.remaining reader.old) (W.contents out.old) (W.contents out.new) (F.contents faults.old) (F.contents faults.new) result.is_told }
 {
-    match run_script(alloc, config, options, reader, out) {
+    match run_script(alloc, house, config, replay, reader, out) {
         Ok(()) => Ending {
             status: Status::Done,
             is_told: true,
@@ -105,63 +95,51 @@ pub fn script<R: Read, W: Write, F: Write>(
     }
 }
 
-fn run_script<R: Read, W: Write>(
+fn run_script<H: House, R: Read, W: Write>(
     alloc: Global,
+    house: Result<H, NoMemory>,
     config: &Config,
-    options: Options,
+    replay: Option<u64>,
     reader: &mut R,
     out: &mut W,
 ) -> Result<(), ScriptFault>
+    requires empty { IfOk house (λ h. H.view h ≡ empty config.now) }
+    requires unbound { IfOk house (λ h. H.bound_of h ≡ None) }
     ensures ok { OnOk result (IfSome (R.remaining reader.old) (λ text. Wrote config.now text (W.contents out.old) (W.contents out.new))) }
     ensures err { OnErr result (IfSome (R.remaining reader.old) (λ text. IsRefused text → Keeps (W.contents out.old) (W.contents out.new))) }
     ensures stops { IfErr result (StopsBy config.now (R.remaining reader.old) (W.contents out.old) (W.contents out.new)) }
 {
     let text = read_text(alloc, reader)?;
-    let printed = answers(alloc, config, options, text.as_slice())?;
+    let printed = answers(alloc, house, config, replay, text.as_slice())?;
     write_text(out, printed.as_slice())
 }
 
 /// The lines that a script of this text prints.
-pub(crate) fn answers(
+fn answers<H: House>(
     alloc: Global,
+    house: Result<H, NoMemory>,
     config: &Config,
-    options: Options,
+    replay: Option<u64>,
     text: &[u8],
 ) -> Result<Vec<u8>, ScriptFault>
-    requires { length text.now ≤ 2 ^ 24 }
+    requires within { length text.now ≤ 2 ^ 24 }
+    requires empty { IfOk house (λ h. H.view h ≡ empty config.now) }
+    requires unbound { IfOk house (λ h. H.bound_of h ≡ None) }
     ensures prints { IfOk result (λ printed. Prints config.now text.now printed.items) }
     ensures fault { IfErr result (FailsBy (lines_of text.now)) }
 {
     let acts = read_acts(alloc, text)?;
-    let driven = driven(alloc, config, options, acts.as_slice())?;
-    if options.audits {
+    let driven = drive(alloc, house?, config, acts.as_slice())?;
+    if let Some(seed) = replay {
         audit(
             alloc,
             config,
             driven.steps.as_slice(),
             driven.sent.as_slice(),
-            options.seeds.replay,
+            seed,
         )?;
     }
     Ok(printed(alloc, driven.sent.as_slice())?)
-}
-
-/// The acts run on an empty house: one that looks at each row, or one that finds rows by hints.
-fn driven(
-    alloc: Global,
-    config: &Config,
-    options: Options,
-    acts: &[Act],
-) -> Result<Driven, NoMemory>
-    ensures run { IfOk result (λ d. IsRun (empty config.now) d.steps.items) }
-    ensures tied { IfOk result (λ d. IsTied config.now acts.now d.steps.items d.sent.items) }
-    ensures bytes { IfOk result (λ d. (s : ℕ) → bytes_to s d.sent.items ≡ flat_map framed (said_to s (empty config.now) d.steps.items)) }
-{
-    if options.scans {
-        return drive(alloc, RowsHouse::new(alloc, config)?, config, acts);
-    }
-    let hall = Hall::new(alloc, config, options.seeds.house)?;
-    drive(alloc, hall, config, acts)
 }
 
 fn read_text<R: Read>(alloc: Global, reader: &mut R) -> Result<Vec<u8>, ScriptFault>

@@ -1,13 +1,15 @@
-//! Items are granted, placed and given room where there is memory. Their ends were worked out by hand.
+//! Items are placed and given room where there is memory. Their ends were worked out by hand.
 use jsp_lease::{Item, Leases, Rank};
 use std::test::Fail;
 
 #[test]
-fn items_are_granted_and_placed(rt: HostRuntime) -> Result<(), Fail> {
+fn items_are_placed(rt: HostRuntime) -> Result<(), Fail> {
     let mut leases = Leases::new(rt.alloc());
-    let first = leases.grant(4, Rank::Entry, 1000, 500)?;
-    let any = leases.grant(5, Rank::Transaction, 1000, -1)?;
-    assert_eq!(rt; (first, any), (500, 60_000));
+    leases.place(Item {
+        end: 1500,
+        rank: Rank::Entry,
+        number: 4,
+    })?;
     let blocked = Item {
         end: 700,
         rank: Rank::Blocked,
@@ -28,7 +30,11 @@ fn a_full_table_gives_way_to_another(rt: HostRuntime) -> Result<(), Fail> {
     let mut leases = Leases::new(rt.alloc());
     for number in 1..=100u64 {
         if leases.last() < number {
-            leases.grant(number, Rank::Entry, 100 - number, 7)?;
+            leases.place(Item {
+                end: 107 - number,
+                rank: Rank::Entry,
+                number,
+            })?;
         }
     }
     for number in (1..=100u64).rev() {

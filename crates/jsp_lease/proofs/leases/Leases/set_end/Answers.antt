@@ -1,4 +1,4 @@
-use Rattle.std.proofs.Common.{◌≡◌, ℕ, refl, ◌∙◌, sym, ap, List, [], ◌∷◌, true, false, Bool, cond, find, Some, None, length}
+use Rattle.std.proofs.Common.{◌≡◌, ℕ, refl, ◌∙◌, sym, ap, List, [], ◌∷◌, true, false, Bool, cond, Some, None, length}
 use Rattle.jsp_lease.specs.declared.item.Item.{Item}
 use Rattle.jsp_lease.specs.Leases.{Leased, ending_at, is_numbered, item_numbered, with_items}
 use Rattle.jsp_lease.specs.Tournament.{living}
