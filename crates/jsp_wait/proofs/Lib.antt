@@ -1,4 +1,4 @@
 pub mod Seeking
 pub mod Least
 pub mod Counting
-pub mod Named
+pub mod Mapped

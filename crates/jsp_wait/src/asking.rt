@@ -2,76 +2,15 @@
 ghost use Rattle.std.specs.Prelude.{◌==◌, ◌&&◌, [], ◌∷◌, map, is_some};
 ghost use Rattle.std.specs.List.{list_any};
 ghost use Rattle.jsp_model.specs.Lookup.{is_caller as calls};
-ghost use Rattle.jsp_keyed.specs.Keys.{session_key, transaction_key};
-ghost use Rattle.jsp_wait.specs.Sought.{asked_key, under_key};
+ghost use Rattle.jsp_keyed.specs.Keys.{transaction_key};
+ghost use Rattle.jsp_wait.specs.Sought.{under_key};
 
-use crate::by_number::{key_of_asked, key_of_under};
+use crate::by_number::key_of_under;
 use crate::scanned::is_under;
-use jsp_keyed::{Key, Keys, key_of_session, key_of_transaction};
+use jsp_keyed::{Keys, key_of_transaction};
 use jsp_model::Blocked;
 use jsp_sight::is_caller;
 use jsp_table::Test;
-
-/// Whether it is a session's.
-#[derive(Drop)]
-pub(crate) struct OfSession {
-    pub(crate) session: u64,
-}
-
-impl Test<Blocked> for OfSession {
-    ghost is_passed = { λ t b. b.session == t.session };
-
-    fn passes(&self, request: &Blocked) -> bool {
-        request.session == self.session
-    }
-}
-
-impl Key for OfSession {
-    ghost key_by = { λ t seed. session_key seed t.session };
-
-    fn key(&self, seed: u64) -> u64 {
-        key_of_session(seed, self.session)
-    }
-}
-
-impl Keys for OfSession {
-    ghost sought = { λ t seed. session_key seed t.session ∷ [] };
-
-    fn sought_count(&self, _seed: u64) -> usize {
-        1
-    }
-
-    fn sought_key(&self, seed: u64, _place: usize) -> u64 {
-        key_of_session(seed, self.session)
-    }
-}
-
-/// Whether it is a session's, under an id.
-#[derive(Drop)]
-pub(crate) struct Asked {
-    pub(crate) session: u64,
-    pub(crate) id: u64,
-}
-
-impl Test<Blocked> for Asked {
-    ghost is_passed = { λ t b. b.session == t.session && b.id == t.id };
-
-    fn passes(&self, request: &Blocked) -> bool {
-        request.session == self.session && request.id == self.id
-    }
-}
-
-impl Keys for Asked {
-    ghost sought = { λ t seed. asked_key seed t.session t.id ∷ [] };
-
-    fn sought_count(&self, _seed: u64) -> usize {
-        1
-    }
-
-    fn sought_key(&self, seed: u64, _place: usize) -> u64 {
-        key_of_asked(seed, self.session, self.id)
-    }
-}
 
 /// Whether it is under one of some transactions.
 #[derive(Drop)]

@@ -3,20 +3,18 @@ ghost use Rattle.std.specs.Prelude.{◌≡◌, map, slice_index};
 ghost use Rattle.jsp_model.specs.declared.state.Blocked.{Blocked as OfBlocked};
 ghost use Rattle.jsp_lease.specs.declared.item.Rank.TheVariants.{Blocked as OfRank};
 ghost use Rattle.jsp_keyed.specs.Templates.{template_key};
-ghost use Rattle.jsp_wait.specs.Sought.{asked_key, under_key, if_key, caller_key, under_or, if_or, request_keys};
+ghost use Rattle.jsp_wait.specs.Sought.{under_key, if_key, caller_key, under_or, if_or, request_keys};
 
 use crate::scanned::copy_request;
-use jsp_keyed::{
-    Keyed, Keying, key_of_number, key_of_session, key_of_template, key_of_transaction,
-};
+use jsp_keyed::{Keyed, Keying, key_of_number, key_of_template, key_of_transaction};
 use jsp_model::{Blocked, Rank};
 use jsp_sight::is_if;
 use jsp_table::Numbering;
 use jsp_types::NoMemory;
 
-/// Requests go by their numbers. Each is named under its session and its id, under its session, its
-/// transaction, what its form waits for, and under one key for each of its templates: the first value
-/// that it asks for.
+/// Requests go by their numbers. Each is named under its transaction, under what its form waits
+/// for, and under one key for each of its templates: the first value that it asks for. What has no
+/// transaction, or doesn't wait for a conflict to end, has its first template's key in that place.
 #[derive(Drop)]
 pub(crate) struct ByNumber {}
 
@@ -39,7 +37,7 @@ impl Keying<Blocked> for ByNumber {
     ghost rank_of = { OfRank };
 
     fn count(_seed: u64, request: &Blocked) -> usize {
-        request.templates.as_slice().len() + 5
+        request.templates.as_slice().len() + 3
     }
 
     fn key(seed: u64, request: &Blocked, place: usize) -> u64 {
@@ -63,12 +61,10 @@ fn key_at(seed: u64, request: &Blocked, place: usize) -> u64
     ensures { result ≡ slice_index (request_keys seed request.now) place }
 {
     match place {
-        0 => key_of_asked(seed, request.session, request.id),
-        1 => key_of_session(seed, request.session),
-        2 => key_of_caller(seed, request),
-        3 => key_if_under(seed, request),
-        4 => key_if_held(seed, request),
-        _ => key_of_place(seed, request, place - 5),
+        0 => key_of_caller(seed, request),
+        1 => key_if_under(seed, request),
+        2 => key_if_held(seed, request),
+        _ => key_of_place(seed, request, place - 3),
     }
 }
 
@@ -86,7 +82,7 @@ fn key_of_caller(seed: u64, request: &Blocked) -> u64
     ensures { result ≡ caller_key seed request.now }
 {
     match request.transaction {
-        None => key_of_session(seed, request.session),
+        None => key_of_place(seed, request, 0),
         Some(x) => key_of_transaction(seed, x),
     }
 }
@@ -97,7 +93,7 @@ fn key_if_under(seed: u64, request: &Blocked) -> u64
     if request.transaction.is_some() {
         key_of_under(seed, request.space)
     } else {
-        key_of_session(seed, request.session)
+        key_of_place(seed, request, 0)
     }
 }
 
@@ -107,14 +103,8 @@ fn key_if_held(seed: u64, request: &Blocked) -> u64
     if is_if(request.form) {
         key_of_if(seed, request.space)
     } else {
-        key_of_session(seed, request.session)
+        key_of_place(seed, request, 0)
     }
-}
-
-pub(crate) fn key_of_asked(seed: u64, session: u64, id: u64) -> u64
-    ensures { result ≡ asked_key seed session id }
-{
-    key_of_number(key_of_number(seed, 9, session), 9, id)
 }
 
 pub(crate) fn key_of_under(seed: u64, space: u64) -> u64

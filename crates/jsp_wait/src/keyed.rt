@@ -1,6 +1,5 @@
 //! The requests that wait, found by hints.
-ghost use Rattle.std.specs.Prelude.{◌≡◌, ◌==◌, ◌&&◌, ◌++◌, ℕ, true, false, map, filter, find, length, option_copied, nat_le, IfOk, MatchOption};
-ghost use Rattle.std.specs.List.{list_any};
+ghost use Rattle.std.specs.Prelude.{◌≡◌, ◌==◌, ◌++◌, ℕ, true, false, map, filter, find, length, option_copied, IfOk, MatchOption};
 ghost use Rattle.std.specs.Option.{option_map_or};
 ghost use Rattle.jsp_model.specs.declared.state.Blocked.{Blocked as OfBlocked};
 ghost use Rattle.jsp_table.specs.Places.{living};
@@ -8,7 +7,6 @@ ghost use Rattle.jsp_keyed.specs.Finding.{is_sought};
 ghost use Rattle.jsp_wait.specs.Waiting.{asker};
 ghost use Rattle.jsp_wait.specs.Sought.{request_keys};
 
-use crate::asking::{Asked, OfSession};
 use crate::by_number::{ByNumber, Requests};
 use crate::scanned::{asker_of, copy_request};
 use crate::waiters::Asker;
@@ -72,24 +70,6 @@ fn waits_at(place: &Option<Blocked>, space: u64) -> bool
         Some(request) => request.space == space,
         None => false,
     }
-}
-
-/// Whether the session's request of this id waits.
-pub(crate) fn is_asked(requests: &Requests, session: u64, id: u64) -> bool
-    ensures { result ≡ list_any (λ b. b.session == session && b.id == id) requests.now }
-{
-    requests.first_above(0, &Asked { session, id }).is_some()
-}
-
-/// Whether at least so many of the session's requests wait. They are counted only where the list of
-/// those that are found under the session isn't shorter.
-pub(crate) fn are_at_least(requests: &Requests, session: u64, count: usize) -> bool
-    ensures { result ≡ nat_le count (length (filter (λ b. b.session == session) requests.now)) }
-{
-    // Which says that the numbers rise.
-    let _ = requests.places();
-    let asked = OfSession { session };
-    count <= requests.numbers_under(&asked).len() && count <= requests.count(&asked)
 }
 
 /// The space of the request of this number, if it is there.

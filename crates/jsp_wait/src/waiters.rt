@@ -7,11 +7,9 @@ ghost use Rattle.jsp_model.specs.Lookup.{is_caller as calls};
 ghost use Rattle.jsp_wait.specs.Waiting.{blocked_end, askers_under, askers_at};
 ghost use Rattle.jsp_wait.specs.Offered.{AskForIt, takes_one, waits_no_more};
 
-use crate::asking::{At, OfSession, Under, UnderAny, UnderIt};
-use crate::by_number::Requests;
-use crate::keyed::{
-    are_at_least, askers, copies_of, count_waiting_at, first_at_places, is_asked, space_of,
-};
+use crate::asking::{At, Under, UnderAny, UnderIt};
+use crate::found::Found;
+use crate::keyed::{askers, copies_of, count_waiting_at, first_at_places, space_of};
 use crate::offer::Offer;
 use crate::scanned::{
     any_asked, any_takes, asked_at, asked_under, count_asked, count_waiting, drop_at,
@@ -19,7 +17,6 @@ use crate::scanned::{
     spaces_numbered,
 };
 use crate::taking::{Stirred, TakesOne, first_stirred, first_taker, is_wanted};
-use jsp_keyed::Keyed;
 use jsp_model::{Blocked, Item};
 use jsp_table::Test;
 use jsp_types::{Items, NoMemory};
@@ -44,7 +41,7 @@ pub struct Waiters {
 #[derive(Drop)]
 pub(crate) enum Kept {
     Scanned(Vec<Blocked>),
-    Keyed(Requests),
+    Keyed(Found),
 }
 
 impl Model for Waiters {
@@ -75,7 +72,7 @@ impl Waiters {
     {
         Waiters {
             alloc,
-            kept: Kept::Keyed(Keyed::new(alloc, seed)),
+            kept: Kept::Keyed(Found::new(alloc, seed)),
         }
     }
 
@@ -98,7 +95,7 @@ impl Waiters {
     {
         match &self.kept {
             Kept::Scanned(requests) => plain_copy(alloc, requests),
-            Kept::Keyed(requests) => copies_of(alloc, requests.places()),
+            Kept::Keyed(found) => copies_of(alloc, found.requests.places()),
         }
     }
 
@@ -113,10 +110,10 @@ impl Waiters {
             Kept::Scanned(requests) => {
                 requests.push(request)?;
             }
-            Kept::Keyed(requests) => {
-                if let Some(request) = requests.push(request)? {
+            Kept::Keyed(found) => {
+                if let Some(request) = found.push(request)? {
                     // Hints are for rising numbers. The machine's rise; others are scanned from here on.
-                    let mut plain = copies_of(self.alloc, requests.places())?.into_vec();
+                    let mut plain = copies_of(self.alloc, found.requests.places())?.into_vec();
                     plain.push(request)?;
                     self.kept = Kept::Scanned(plain);
                 }
@@ -133,7 +130,7 @@ impl Waiters {
     {
         match &mut self.kept {
             Kept::Scanned(requests) => drop_numbered(requests, number),
-            Kept::Keyed(requests) => requests.remove(number),
+            Kept::Keyed(found) => found.remove(number),
         }
     }
 
@@ -143,7 +140,7 @@ impl Waiters {
     {
         match &mut self.kept {
             Kept::Scanned(requests) => drop_of(requests, session),
-            Kept::Keyed(requests) => requests.remove_all(&OfSession { session }),
+            Kept::Keyed(found) => found.remove_of(session),
         }
     }
 
@@ -153,7 +150,7 @@ impl Waiters {
     {
         match &mut self.kept {
             Kept::Scanned(requests) => drop_under(requests, x),
-            Kept::Keyed(requests) => requests.remove_all(&UnderIt { transaction: x }),
+            Kept::Keyed(found) => found.remove_all(&UnderIt { transaction: x }),
         }
     }
 
@@ -163,7 +160,7 @@ impl Waiters {
     {
         match &mut self.kept {
             Kept::Scanned(requests) => drop_at(requests, space),
-            Kept::Keyed(requests) => requests.remove_all(&UnderAny { space }),
+            Kept::Keyed(found) => found.remove_all(&UnderAny { space }),
         }
     }
 
@@ -175,7 +172,7 @@ impl Waiters {
     {
         match &self.kept {
             Kept::Scanned(requests) => requests.is_empty(),
-            Kept::Keyed(requests) => requests.places().is_empty(),
+            Kept::Keyed(found) => found.requests.places().is_empty(),
         }
     }
 
@@ -183,7 +180,7 @@ impl Waiters {
     pub fn most_waiting(&self) -> usize {
         match &self.kept {
             Kept::Scanned(requests) => requests.len(),
-            Kept::Keyed(requests) => requests.places().len(),
+            Kept::Keyed(found) => found.requests.places().len(),
         }
     }
 
@@ -193,7 +190,7 @@ impl Waiters {
     {
         match &self.kept {
             Kept::Scanned(requests) => first_numbered(requests, number),
-            Kept::Keyed(requests) => requests.get(number),
+            Kept::Keyed(found) => found.requests.get(number),
         }
     }
 
@@ -203,7 +200,7 @@ impl Waiters {
     {
         match &self.kept {
             Kept::Scanned(requests) => first_passing(requests, test),
-            Kept::Keyed(requests) => first_at_places(requests.places(), test),
+            Kept::Keyed(found) => first_at_places(found.requests.places(), test),
         }
     }
 
@@ -228,7 +225,7 @@ impl Waiters {
                     offer,
                 },
             ),
-            Kept::Keyed(requests) => first_taker(requests, space, numbers, offer),
+            Kept::Keyed(found) => first_taker(&found.requests, space, numbers, offer),
         }
     }
 
@@ -252,7 +249,7 @@ impl Waiters {
                     offer,
                 },
             ),
-            Kept::Keyed(requests) => first_stirred(requests, space, numbers, offer),
+            Kept::Keyed(found) => first_stirred(&found.requests, space, numbers, offer),
         }
     }
 
@@ -263,7 +260,7 @@ impl Waiters {
     {
         match &self.kept {
             Kept::Scanned(requests) => any_takes(requests, number, offer),
-            Kept::Keyed(requests) => is_wanted(requests, number, offer),
+            Kept::Keyed(found) => is_wanted(&found.requests, number, offer),
         }
     }
 
@@ -273,7 +270,7 @@ impl Waiters {
     {
         match &self.kept {
             Kept::Scanned(requests) => any_asked(requests, session, id),
-            Kept::Keyed(requests) => is_asked(requests, session, id),
+            Kept::Keyed(found) => found.is_asked(session, id),
         }
     }
 
@@ -283,7 +280,7 @@ impl Waiters {
     {
         match &self.kept {
             Kept::Scanned(requests) => count <= count_asked(requests, session),
-            Kept::Keyed(requests) => are_at_least(requests, session, count),
+            Kept::Keyed(found) => found.are_at_least(session, count),
         }
     }
 
@@ -293,7 +290,7 @@ impl Waiters {
     {
         match &self.kept {
             Kept::Scanned(requests) => count_waiting(requests, space),
-            Kept::Keyed(requests) => count_waiting_at(requests.places(), space),
+            Kept::Keyed(found) => count_waiting_at(found.requests.places(), space),
         }
     }
 
@@ -303,7 +300,7 @@ impl Waiters {
     {
         match &self.kept {
             Kept::Scanned(requests) => first_over(requests, time),
-            Kept::Keyed(requests) => requests.due(time),
+            Kept::Keyed(found) => found.requests.due(time),
         }
     }
 
@@ -313,7 +310,7 @@ impl Waiters {
     {
         match &self.kept {
             Kept::Scanned(requests) => spaces_numbered(alloc, requests, number),
-            Kept::Keyed(requests) => space_of(alloc, requests, number),
+            Kept::Keyed(found) => space_of(alloc, &found.requests, number),
         }
     }
 
@@ -323,7 +320,7 @@ impl Waiters {
     {
         match &self.kept {
             Kept::Scanned(requests) => asked_under(alloc, requests, transactions),
-            Kept::Keyed(requests) => askers(alloc, requests, &Under { transactions }),
+            Kept::Keyed(found) => askers(alloc, &found.requests, &Under { transactions }),
         }
     }
 
@@ -333,7 +330,7 @@ impl Waiters {
     {
         match &self.kept {
             Kept::Scanned(requests) => asked_at(alloc, requests, space),
-            Kept::Keyed(requests) => askers(alloc, requests, &UnderAny { space }),
+            Kept::Keyed(found) => askers(alloc, &found.requests, &UnderAny { space }),
         }
     }
 }
