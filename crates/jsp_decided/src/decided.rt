@@ -17,6 +17,10 @@ use jsp_sight::Decision;
 use jsp_types::NoMemory;
 use std::alloc::Global;
 
+/// How many decisions may be left to apply where another is recorded: what asks for a row by its number,
+/// or for what a commit publishes, goes through all of them.
+const MOST: usize = 256;
+
 /// The rows of all spaces, and the decisions that they don't show yet.
 #[derive(Drop)]
 pub struct DecidedRows {
@@ -107,6 +111,38 @@ impl DecidedRows {
     }
 
     fn record(&mut self, x: u64, commits: bool) -> Result<(), NoMemory>
+        ensures ok { OnOk result (rows_of self.new ≡ (if commits then committed x (rows_of self.old) else aborted x (rows_of self.old))) }
+        ensures err { OnErr result (rows_of self.new ≡ rows_of self.old) }
+    {
+        self.keep_few();
+        self.record_beside(x, commits)
+    }
+
+    /// While more decisions are left to apply than may be, the oldest is applied.
+    fn keep_few(&mut self)
+        ensures { rows_of self.new ≡ rows_of self.old }
+    {
+        'oldest: while let Some(space) = self.space_over_most() {
+            self.apply_first(space);
+        }
+    }
+
+    /// The space of the oldest decision, where there are more than may be.
+    fn space_over_most(&self) -> Option<u64>
+        ensures { IfSome result (λ space. is_covered self.now.decisions.items space ≡ true) }
+    {
+        if self.decisions.len() <= MOST {
+            return None;
+        }
+        let space = self.decisions[0].space;
+        if covers(&self.decisions, space) {
+            Some(space)
+        } else {
+            None
+        }
+    }
+
+    fn record_beside(&mut self, x: u64, commits: bool) -> Result<(), NoMemory>
         ensures ok { OnOk result (rows_of self.new ≡ (if commits then committed x (rows_of self.old) else aborted x (rows_of self.old))) }
         ensures err { OnErr result (rows_of self.new ≡ rows_of self.old) }
     {

@@ -1,6 +1,6 @@
-//! The spaces that are about to be touched apply what was decided before. No step is made by that, and the
-//! state is the same. Nothing here fails: where memory for a list of spaces is refused they stay as they
-//! are, and are looked through the longer way.
+//! The spaces that are about to be touched apply what was decided before, and registrations are told what
+//! commits tell them. No step is made by that, and the state is the same. Nothing here fails: where memory
+//! for a list of spaces is refused, all spaces apply what was decided.
 ghost use Rattle.std.specs.Prelude.{◌≡◌};
 
 use crate::to_come::Coming;
@@ -40,16 +40,18 @@ fn apply_due(alloc: Global, image: &mut LiveImage)
 fn apply_step(alloc: Global, image: &mut LiveImage, step: &Step)
     ensures { image.new ≡ image.old }
 {
-    if let Ok(spaces) = touches(alloc, image, step) {
-        apply_in(image, spaces.as_slice());
+    match touches(alloc, image, step) {
+        Ok(spaces) => apply_in(image, spaces.as_slice()),
+        Err(_) => image.apply_all(),
     }
 }
 
 fn apply_coming<T: Coming>(alloc: Global, image: &mut LiveImage, coming: &T)
     ensures { image.new ≡ image.old }
 {
-    if let Ok(spaces) = coming.touches(alloc, image) {
-        apply_in(image, spaces.as_slice());
+    match coming.touches(alloc, image) {
+        Ok(spaces) => apply_in(image, spaces.as_slice()),
+        Err(_) => image.apply_all(),
     }
 }
 

@@ -17,7 +17,7 @@ pub(crate) fn first_unquiet(image: &LiveImage) -> Option<u64>
     (0..count).find(|space| !is_quiet(image, *space))
 }
 
-/// The same, once each space has applied what was decided.
+/// The same, once each space has applied what was decided, and registrations were told of it.
 pub(crate) fn first_to_quiet(image: &mut LiveImage) -> Option<u64>
     ensures found { result ≡ first_of_all image.old }
     ensures same { image.new ≡ image.old }

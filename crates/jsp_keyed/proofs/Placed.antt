@@ -1,7 +1,7 @@
 -- What stands at places, and what is found there.
 use Rattle.std.proofs.Common.{◌≡◌, ℕ, zero, suc, ◌+◌, ◌<◌, Bool, true, false, cond, ◌||◌, ◌&&◌, ◌≤◌, eqb, List, [], ◌∷◌, ◌++◌, length, take, get_or, Option, Some, None, refl, ap, sym, ◌∙◌, arith, inl, inr}
-use Rattle.std.specs.Prelude.{find, filter, is_some}
-use Rattle.std.specs.List.{AllByRecursion, list_any}
+use Rattle.std.specs.Prelude.{find, filter, is_none, is_some}
+use Rattle.std.specs.List.{AllByRecursion, list_any, list_all}
 use Rattle.std.specs.Option.{option_map_or}
 use Rattle.std.proofs.lemmas.Bool.{cases_eq, eq-eqb, ne_eqb}
 use Rattle.std.proofs.lemmas.List.{take_more}
@@ -68,6 +68,12 @@ module _ {T : Type 0} where
   living_count [] = refl
   living_count (None ∷ places) = living_count places
   living_count (Some x ∷ places) = ap suc (living_count places)
+
+  -- nothing stands there
+  pub none_living : (places : List (Option T)) → list_all is_none places ≡ eqb (length (living places)) 0
+  none_living [] = refl
+  none_living (None ∷ places) = none_living places
+  none_living (Some x ∷ places) = sym (ne_eqb (suc (length (living places))) 0 (λ e. omega (arith, e)))
 
   pub living_fewer : (places : List (Option T)) → length (living places) ≤ length places
   living_fewer [] = omega arith

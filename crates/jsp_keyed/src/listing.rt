@@ -4,7 +4,7 @@ ghost use Rattle.std.specs.List.{list_any};
 ghost use Rattle.jsp_lease.specs.Due.{first_item, over_by};
 ghost use Rattle.jsp_keyed.specs.Kept.{item_of};
 
-use crate::slots::{copies_of, count_at, first_at, first_over_at};
+use crate::slots::{are_empty, copies_of, count_at, first_at, first_over_at};
 use crate::{Keyed, Keying, NoMemory};
 use jsp_lease::Item;
 use jsp_table::{Numbering, Test};
@@ -33,7 +33,7 @@ impl<T, K: Numbering<T> + Keying<T>> Keyed<T, K> {
     pub fn is_empty(&self) -> bool
         ensures { result ≡ (length self.now == 0) }
     {
-        !self.has_at_least(1)
+        are_empty(self.places())
     }
 
     /// The first thing that passes a test. Each is looked at.

@@ -1,5 +1,6 @@
 //! Things that stand at places, some of which are empty.
-ghost use Rattle.std.specs.Prelude.{◌≡◌, map, filter, find, length, is_some, option_copied, IfOk};
+ghost use Rattle.std.specs.Prelude.{◌≡◌, ◌==◌, map, filter, find, length, is_none, is_some, option_copied, IfOk};
+ghost use Rattle.std.specs.List.{list_all};
 ghost use Rattle.jsp_lease.specs.Due.{first_item, over_by};
 ghost use Rattle.jsp_table.specs.Places.{living};
 ghost use Rattle.jsp_keyed.specs.Ending.{first_with};
@@ -53,6 +54,19 @@ fn count_filled<T>(places: &[Option<T>]) -> usize
     ensures { result ≡ length (filter is_some places.now) }
 {
     places.iter().filter(|place| place.is_some()).count()
+}
+
+/// Whether nothing stands at these places.
+pub(crate) fn are_empty<T>(places: &[Option<T>]) -> bool
+    ensures { result ≡ (length (living places.now) == 0) }
+{
+    are_none(places)
+}
+
+fn are_none<T>(places: &[Option<T>]) -> bool
+    ensures { result ≡ list_all is_none places.now }
+{
+    places.iter().all(|place| place.is_none())
 }
 
 /// Of those at these places that pass and whose end has come, the one that comes first, as an item.

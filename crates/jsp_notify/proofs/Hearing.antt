@@ -157,3 +157,11 @@ heard_as_before old new before after same none = sym (all_heard after) ∙ (ap (
 pub nothing_to_hear : (news : List News) (rs : List Registration) → (length news == 0) ≡ true → rs ≡ map (hearing news) rs
 nothing_to_hear [] rs none = sym (all_heard rs)
 nothing_to_hear (n ∷ ns) rs none = absurd (true≢false (sym none ∙ not_zero (length ns)))
+
+-- of no rows nobody is owed anything
+pub none_owed : (classes : List Class) (rows : List Row) (rs : List Registration) → (length rows == 0) ≡ true → rs ≡ map (owed classes None rows) rs
+none_owed classes [] rs none = each rs where
+  each : (rs : List Registration) → rs ≡ map (owed classes None []) rs
+  each [] = refl
+  each (r ∷ rs) = same_lists (sym (none_heard r)) (each rs)
+none_owed classes (row ∷ rows) rs none = absurd (true≢false (sym none ∙ not_zero (length rows)))

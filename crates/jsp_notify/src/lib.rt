@@ -6,7 +6,9 @@
 //! what it leaves or answers (`specs/Owing.antt`, `specs/Registered.antt`). They are found by hints
 //! (jsp_keyed): by session, by transaction, by space, by the first value that their templates ask for, so
 //! that a row that is written finds those that it is news to, and by space where they are owed an event.
-//! What adds is whole or not at all; only that, and what answers in lists, takes memory.
+//! What a commit publishes is recorded as news (`news.rt`), and told before anything else that they are
+//! owed, or that hangs on it, is. What adds or tells is whole or not at all; only that, and what answers in
+//! lists, takes memory.
 #![tactic(auto)]
 
 mod asking;

@@ -5,7 +5,7 @@ ghost use Rattle.std.specs.Option.{option_map_or};
 ghost use Rattle.jsp_lease.specs.Due.{first_item, over_by};
 ghost use Rattle.jsp_model.specs.declared.state.Registration.{Registration as OfRegistration};
 ghost use Rattle.jsp_model.specs.Lookup.{update, is_caller as calls};
-ghost use Rattle.jsp_notify.specs.News.{hearing, without_owed};
+ghost use Rattle.jsp_notify.specs.News.{hearing, untold, without_owed};
 ghost use Rattle.jsp_notify.specs.Owing.{owed as with_owed};
 ghost use Rattle.jsp_notify.specs.Registered.{registration_end, registration_ending, told_once};
 
@@ -102,7 +102,17 @@ impl Registrations {
         ensures ok { OnOk result (self.new ≡ map (with_owed classes.now None published) self.old) }
         ensures err { OnErr result (self.new ≡ self.old) }
     {
+        if published.as_slice().is_empty() {
+            return Ok(());
+        }
         let news = News::of(classes, published)?;
+        self.record_news(news)
+    }
+
+    fn record_news(&mut self, news: News) -> Result<(), NoMemory>
+        ensures ok { OnOk result (self.new ≡ map (with_owed news.classes None (untold news)) self.old) }
+        ensures err { OnErr result (self.new ≡ self.old) }
+    {
         self.news.push(news)?;
         Ok(())
     }
@@ -151,7 +161,7 @@ impl Registrations {
         ensures ok { OnOk result (self.new ≡ self.old ++ registration ∷ []) }
         ensures err { OnErr result (self.new ≡ self.old) }
     {
-        tell_all(&mut self.heard, &mut self.news)?;
+        tell_all(&mut self.heard, &mut self.news)?; // so that it hears nothing of it
         self.heard.push(registration)
     }
 

@@ -2,7 +2,7 @@ use Rattle.std.proofs.Common.{ap, ◌∙◌}
 use Rattle.jsp_sight.specs.Deciding.{rows_after}
 use Rattle.jsp_index.specs.Ending.{EndsAll}
 use Rattle.jsp_decided.proofs.Ending.{ended_after}
-use Rattle.jsp_decided.proofs.decided.DecidedRows.record.Goals as goal
+use Rattle.jsp_decided.proofs.decided.DecidedRows.record_beside.Goals as goal
 
 pub returns-clause-ok : goal.returns-clause-ok
 returns-clause-ok c =
