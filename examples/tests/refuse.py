@@ -234,6 +234,7 @@ def unmet(refusing):
     """Memory is wanting at each growth from a connection on, so that some clients are met and others aren't. At its end
     the server has compared the lines of all that it served, whatever became of the others."""
     server, address = refusing.listen("--until-input")
+    write_and_take(address)  # so that all of the server's threads are there
     served = 0
     growths = range(1, 60)
     for growth in growths:
