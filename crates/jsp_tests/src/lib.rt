@@ -8,9 +8,13 @@
 #[cfg(test)]
 mod copies;
 #[cfg(test)]
+mod decisions;
+#[cfg(test)]
 mod frames;
 #[cfg(test)]
 mod leases;
+#[cfg(test)]
+mod news;
 #[cfg(test)]
 mod outboxes;
 #[cfg(test)]
@@ -19,3 +23,5 @@ mod pages;
 mod requests;
 #[cfg(test)]
 mod runs;
+#[cfg(test)]
+mod spaces;
