@@ -29,6 +29,7 @@ is_line s st steps line asks writes = record {
   written = writes.begins;
   all_written = writes.all;
   ended = asks.ended;
+  noted = asks.noted;
 }
 
 pub is_whole : (spaces : List (List ℕ)) (steps : List Step) (lines : List LineReport)

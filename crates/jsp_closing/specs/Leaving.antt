@@ -18,13 +18,14 @@ pub record Marks (s : ℕ) (old new : List Bool) : Type 0 where
   pub each : (i : ℕ) (flag : Bool) → slice_get new i ≡ Some flag → (before : Bool) × (slice_get old i ≡ Some before) × (flag ≡ (before || s == i + 1))
 
 -- The line's bytes say what its session asks in the steps. They say more only where a write failed, where the session is
--- closed after them and nobody shut it, or where the line was cut.
+-- closed after them and nobody shut it, or where the line was cut. What the house noted of it is in the steps.
 pub record AsksIn (s : ℕ) (steps : List Step) (after : State) (line : LineReport) : Type 0 where
   pub session : line.session ≡ s
   pub more : Bool
   pub says : SaysMore s line.read.items (requests_of s steps) more
-  pub may_leave : line.write_failed ≡ false → (more ≡ false) ⊎ (((is_open after s ≡ false) × (was_shut s steps ≡ false)) ⊎ WasCut s steps line.ended)
-  pub ended : MayEnd line.ended line.write_failed (was_shut s steps)
+  pub may_leave : line.write_failed ≡ false → (more ≡ false) ⊎ (((is_open after s ≡ false) × (was_shut s steps ≡ false)) ⊎ WasCut s steps line)
+  pub ended : MayEnd line.ended line.write_failed line.shut_by_house
+  pub noted : line.shut_by_house ≡ true → was_shut s steps ≡ true
 
 -- it is the session's line, and asks in the steps if it is whole
 abbrev pub MayAsk : ℕ → List Step → State → LineReport → Type 0

@@ -17,6 +17,9 @@ pub struct LineReport {
     pub written: Vec<u8>,
     pub read_failed: bool,
     pub write_failed: bool,
+    /// Whether the house itself shut its session while that was open, as whoever kept it noted. That a line shut its
+    /// own session isn't told here.
+    pub shut_by_house: bool,
 }
 
 /// What a run answers.
@@ -28,7 +31,8 @@ pub enum Closed {
         steps: Vec<Step>,
         lines: Vec<LineReport>,
     },
-    /// The steps of the last era. Those of the earlier ones are gone.
+    /// The steps of the last era. Those of the earlier ones are gone: with them they are one run from the
+    /// empty state, in which all laws hold and after which all is at rest.
     Sealed {
         steps: Vec<Step>,
     },

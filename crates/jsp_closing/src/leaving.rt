@@ -54,7 +54,9 @@ fn check_line(
     if !report.is_whole {
         return Ok(());
     }
-    if !may_end(report.ended, report.write_failed, shut) {
+    if !is_noted_truly(report.shut_by_house, shut)
+        || !may_end(report.ended, report.write_failed, report.shut_by_house)
+    {
         return Err(Fault::Differs);
     }
     let more = says_more(line, report.read.as_slice())?;
@@ -67,24 +69,31 @@ fn check_line(
 // Whether a line may say more than what was asked, or doesn't.
 fn may_leave(state: &Core, session: u64, shut: bool, report: &LineReport, more: bool) -> bool
     ensures { result ≡ true → report.now.write_failed ≡ false
-        → (more ≡ false) ⊎ (((has_open state.now session ≡ false) × (shut ≡ false)) ⊎ ((report.now.ended ≡ Cut) × (shut ≡ true))) }
+        → (more ≡ false) ⊎ (((has_open state.now session ≡ false) × (shut ≡ false)) ⊎ ((report.now.ended ≡ Cut) × ((report.now.shut_by_house ≡ true) × (shut ≡ true)))) }
 {
     if !more || report.write_failed {
         return true;
     }
     if shut {
-        matches!(report.ended, Ended::Cut)
+        matches!(report.ended, Ended::Cut) && report.shut_by_house
     } else {
         !is_open(state, session)
     }
 }
 
-fn may_end(ended: Ended, write_failed: bool, shut: bool) -> bool
-    ensures { result ≡ true → MayEnd ended write_failed shut }
+// Whether a session was shut of which it is noted that the house shut it.
+fn is_noted_truly(by_house: bool, shut: bool) -> bool
+    ensures { result ≡ true → by_house ≡ true → shut ≡ true }
+{
+    !by_house || shut
+}
+
+fn may_end(ended: Ended, write_failed: bool, by_house: bool) -> bool
+    ensures { result ≡ true → MayEnd ended write_failed by_house }
 {
     match ended {
         Ended::Stopped => false,
-        Ended::Cut => write_failed || shut,
+        Ended::Cut => write_failed || by_house,
         Ended::End | Ended::Failed | Ended::Bound | Ended::Closing => true,
     }
 }

@@ -10,6 +10,11 @@ use Rattle.jsp_model.specs.declared.house.Why.TheVariants as why
 use Rattle.jsp_closing.specs.declared.closed.RunFault.{RunFault}
 use Rattle.jsp_closing.specs.declared.closed.RunFault.TheVariants as fault
 
+-- the reports so far and the fault, as contracts see them
+pub record Answered : Type 0 where
+  pub reports : List LineReport
+  pub fault : Option RunFault
+
 -- what a call that was stopped makes of a run
 abbrev pub fault_of : Why → RunFault
 fault_of why.NoMemory = fault.NoMemory
@@ -46,9 +51,9 @@ abbrev pub found_memory : Option Why → Option Why → Health → Bool
 found_memory read other health = not (is_short read) && (not (is_short other) && has_answered health)
 
 -- what is reported of a line whose bytes were kept
-abbrev pub report_of : ℕ → Bool → Ended → Vec ℕ Global → Vec ℕ Global → Bool → Bool → LineReport
-report_of session whole ended read written read_failed write_failed =
-    record { session = session; is_whole = whole; ended = ended; read = read; written = written; read_failed = read_failed; write_failed = write_failed }
+abbrev pub report_of : ℕ → Bool → Ended → Vec ℕ Global → Vec ℕ Global → Bool → Bool → Bool → LineReport
+report_of session whole ended read written read_failed write_failed by_house =
+    record { session = session; is_whole = whole; ended = ended; read = read; written = written; read_failed = read_failed; write_failed = write_failed; shut_by_house = by_house }
 
 -- the report stands behind the others, or there was no memory for it, which is a fault
 abbrev pub Adds : List LineReport → List LineReport → Option RunFault → Option RunFault → LineReport → Type 0

@@ -1,4 +1,5 @@
 //! Where lines come from.
+ghost use Rattle.jsp_floor.specs.Doors.{IfLine};
 
 /// What a door answers.
 #[derive(Drop)]
@@ -13,7 +14,11 @@ pub enum Knock<R, W, X> {
 
 /// Where lines come from. It waits until one has come.
 pub trait Door<R, W, X> {
-    fn next(&mut self) -> Knock<R, W, X>;
+    // What is true of a reader and a writer that come together.
+    ghost gives: { R → W → Type 0 } = { λ reader writer. Unit {0} };
+
+    fn next(&mut self) -> Knock<R, W, X>
+        ensures { IfLine result gives };
 
     /// Whether the lines that are served are to end. It is asked from time to time once no further one
     /// comes.

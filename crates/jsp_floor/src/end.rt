@@ -1,32 +1,50 @@
 //! The end of a history, once its lines have ended.
 ghost use Rattle.std.specs.Prelude.{◌≡◌, Err, IfOk, IfSome, OnOk};
 ghost use Rattle.jsp_closing.specs.Closing.{Closes, IsAtRest, RestsAfter};
+ghost use Rattle.jsp_floor.specs.Doors.{ComeThrough};
 ghost use Rattle.jsp_floor.specs.Ending.{EndsAs, Finishes, Settles};
 
+use crate::door::Door;
 use crate::served::{Served, fault_of};
 use jsp_closing::{Closed, RunFault, close};
 use jsp_drive::Era;
 use jsp_kept::Kept;
 use jsp_model::{Config, House, Settled, Why};
 use std::alloc::Global;
+use std::io::{Read, Write};
 use std::sync::Wait;
 use std::sync::ledger::Ledger;
 
 /// What a run answers: a fault that was met, or else what its history is, compared with what its lines read and wrote
 /// where no era was sealed. The seed is for that.
-pub(crate) fn finish<H: House, A: Ledger, O: Ledger, T: Wait>(
+pub(crate) fn finish<
+    H: House,
+    A: Ledger,
+    O: Ledger,
+    R: Read + Drop,
+    W: Write + Drop,
+    X,
+    D: Door<R, W, X>,
+    T: Wait,
+>(
     rt: &T,
     alloc: Global,
     config: &Config,
     kept: Kept<H, A, O>,
-    served: Served,
+    served: Served<R, W, X, D>,
     seed: u64,
 ) -> Result<Closed, RunFault>
     ensures fault { IfSome served.fault (λ fault. result ≡ Err fault) }
     ensures closes { IfOk result (Closes config.now) }
-    ensures finishes { IfOk result (Finishes kept served.reports.items) }
+    ensures finishes { IfOk result (Finishes kept served.reports) }
+    ensures comes { IfOk result (ComeThrough D.gives R.remaining W.contents) }
 {
-    let Served { reports, fault, .. } = served;
+    let Served {
+        reports,
+        fault,
+        alloc: _,
+        of: _,
+    } = served;
     if let Some(fault) = fault {
         return Err(fault);
     }

@@ -1,8 +1,15 @@
 //! The lines that are being served.
+ghost use Rattle.std.specs.Prelude.{◌≡◌, ℕ, nat_lt, is_some, Vec};
+ghost use Rattle.std.specs.declared.alloc.Global.{Global};
+ghost use Rattle.jsp_line.specs.declared.transcript.Transcript.TheVariants.{Whole};
+ghost use Rattle.jsp_floor.specs.Doors.{MayCome};
+ghost use Rattle.jsp_floor.specs.Served.{found_memory, report_of};
+
+use crate::door::Door;
 use crate::served::Served;
 use jsp_closing::RunFault;
 use jsp_kept::Backlog;
-use jsp_line::{Floor, Hangup, LineDone};
+use jsp_line::{Floor, Hangup, Left, LineDone, ShutFor};
 use jsp_model::Why;
 use std::alloc::Global;
 use std::io::{Read, Write};
@@ -25,22 +32,22 @@ struct Line<X> {
 
 // The lines that are being served, and what those that have ended answered.
 #[derive(Drop)]
-struct Progress<X> {
+struct Progress<R: Read, W: Write, X, D: Door<R, W, X>> {
     lines: Vec<Line<X>>,
-    served: Served,
+    served: Served<R, W, X, D>,
 }
 
 /// The lines that are being served, so many at most, and what those that have ended answered.
 #[derive(Drop)]
-pub(crate) struct Lines<X> {
+pub(crate) struct Lines<R: Read, W: Write, X, D: Door<R, W, X>> {
     most: usize,
-    progress: Mutex<Progress<X>>,
+    progress: Mutex<Progress<R, W, X, D>>,
     /// Signalled when none is served any more.
     none: Condvar,
 }
 
-impl<X: Hangup + Drop> Lines<X> {
-    pub(crate) fn new(alloc: Global, most: usize) -> Lines<X> {
+impl<R: Read + Drop, W: Write + Drop, X: Hangup + Drop, D: Door<R, W, X>> Lines<R, W, X, D> {
+    pub(crate) fn new(alloc: Global, most: usize) -> Lines<R, W, X, D> {
         Lines {
             most,
             progress: Mutex::new(Progress {
@@ -77,16 +84,20 @@ impl<X: Hangup + Drop> Lines<X> {
         self.progress.lock(rt).lines.push(line).is_ok()
     }
 
-    /// A line has ended. Once an era was sealed nothing is kept of what it read and wrote.
-    pub(crate) fn leave<A: Ledger, O: Ledger, R: Read + Drop, W: Write + Drop, T: Wait>(
+    /// A line that came through the door has ended. Once an era was sealed nothing is kept of what it read and wrote.
+    pub(crate) fn leave<A: Ledger, O: Ledger, T: Wait>(
         &self,
         rt: &T,
         done: LineDone<A, O, R, W>,
-        is_sealed: bool,
-    ) {
+        left: Left,
+    )
+        requires { (read written : Vec ℕ Global) → done.read.transcript ≡ Whole read → done.out.transcript ≡ Whole written
+            → MayCome D.gives R.remaining W.contents
+            (report_of done.read.seat.session (found_memory done.read.why done.why done.out.health) done.read.ended read written (nat_lt 0 done.reader.failures) (nat_lt 0 done.out.writer.failures) (is_some left.shut_for)) }
+    {
         let session = done.read.seat.session();
         let mut progress = self.progress.lock(rt);
-        progress.served.add_line(done, is_sealed);
+        progress.served.add_line(done, left);
         progress.lines.retain(|line| line.session != session);
         if progress.lines.is_empty() {
             self.none.notify_all();
@@ -102,7 +113,7 @@ impl<X: Hangup + Drop> Lines<X> {
     ) {
         let mut progress = self.progress.lock(rt);
         for line in progress.lines.as_slice() {
-            floor.shut(rt, line.session);
+            floor.shut_for(rt, line.session, ShutFor::Ending);
         }
         for _ in 0..LOOKS {
             if progress.lines.is_empty() {
@@ -167,7 +178,7 @@ impl<X: Hangup + Drop> Lines<X> {
     }
 
     /// What all lines answered, once all threads have ended.
-    pub(crate) fn into_served(self) -> Served {
+    pub(crate) fn into_served(self) -> Served<R, W, X, D> {
         let Lines {
             most: _,
             progress,

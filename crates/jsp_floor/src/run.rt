@@ -3,6 +3,10 @@ ghost use Rattle.std.specs.Prelude.{◌≡◌, ◌≤◌, ◌+◌, ◌^◌, IfOk
 ghost use Rattle.jsp_model.specs.Lookup.{empty};
 ghost use Rattle.jsp_closing.specs.Closing.{Closes};
 ghost use Rattle.jsp_line.specs.Seats.{IsSeated};
+ghost use Rattle.jsp_line.specs.Reading.{Faults, Reads};
+ghost use Rattle.jsp_line.specs.Halves.{Writes};
+ghost use Rattle.jsp_floor.specs.Doors.{ComeThrough};
+ghost use Rattle.jsp_floor.specs.Guests.{IfCaller};
 ghost use denote.Param.Send.{IsSync, IsSend};
 
 use crate::door::{Door, Knock};
@@ -10,7 +14,7 @@ use crate::end::finish;
 use crate::lines::Lines;
 use jsp_closing::{Closed, RunFault};
 use jsp_kept::{AskSeat, Backlog, Kept, OutSeat};
-use jsp_line::{Clock, Counts, Floor, Gate, Hangup, Shared, start};
+use jsp_line::{Clock, Counts, Floor, Gate, Hangup, LineDone, Shared, ShutFor, start};
 use jsp_model::Config;
 use std::alloc::Global;
 use std::io::{Read, Write};
@@ -49,8 +53,8 @@ struct Caller<A: Ledger, O: Ledger, R, W, X> {
 
 // What comes of a knock at the door.
 #[derive(Drop)]
-enum Guest<A: Ledger, O: Ledger, R, W, X> {
-    Line(Caller<A, O, R, W, X>),
+enum Guest<C> {
+    Line(C),
     /// A connection that isn't served.
     Refused,
     /// No further line comes.
@@ -59,13 +63,14 @@ enum Guest<A: Ledger, O: Ledger, R, W, X> {
 
 // The gate of a run, which ends the connections of its lines.
 #[derive(Drop)]
-struct RunGate<'r, 'g, 'l, X, G, T> {
+struct RunGate<'r, 'g, 'l, R: Read, W: Write, X, D: Door<R, W, X>, G, T> {
     rt: &'r T,
     gate: &'g G,
-    lines: &'l Lines<X>,
+    lines: &'l Lines<R, W, X, D>,
 }
 
-impl<X: Hangup + Drop, G: Gate, T: Wait> Gate for RunGate<'_, '_, '_, X, G, T> {
+impl<R: Read + Drop, W: Write + Drop, X: Hangup + Drop, D: Door<R, W, X>, G: Gate, T: Wait> Gate
+    for RunGate<'_, '_, '_, R, W, X, D, G, T> {
     fn before(&self, session: u64, nth: u64) {
         self.gate.before(session, nth);
     }
@@ -92,23 +97,42 @@ impl<X: Hangup + Drop, G: Gate, T: Wait> Gate for RunGate<'_, '_, '_, X, G, T> {
 
 // What lines are served with, and those that are served.
 #[derive(Drop)]
-struct Server<'a, 'l, H: Backlog, A: Ledger, O: Ledger, X, G, C, T> {
+struct Server<
+    'a,
+    'l,
+    H: Backlog,
+    A: Ledger,
+    O: Ledger,
+    R: Read,
+    W: Write,
+    X,
+    D: Door<R, W, X>,
+    G,
+    C,
+    T,
+> {
     shared: Shared<'a, H, A, O, G, C, T>,
-    lines: &'l Lines<X>,
+    lines: &'l Lines<R, W, X, D>,
 }
 
 impl<
     H: Backlog + Send,
     A: Ledger + Send + Sync,
     O: Ledger + Send + Sync,
+    R: Read + Send + Drop,
+    W: Write + Send + Drop,
     X: Hangup + Send + Sync + Drop,
+    D: Door<R, W, X> + Send + Drop,
     G: Gate + Sync,
     C: Clock + Sync,
     T: Threads + Wait + time::Clock + Sync,
-> Server<'_, '_, H, A, O, X, G, C, T> {
+> Server<'_, '_, H, A, O, R, W, X, D, G, C, T> {
     // Opens the session of a line that has come, unless as many are served as may be at once, or memory is wanting: its
     // connection is closed then.
-    fn welcome<R: Drop, W: Drop>(&self, reader: R, writer: W, hangup: X) -> Guest<A, O, R, W, X> {
+    fn welcome(&self, reader: R, writer: W, hangup: X) -> Guest<Caller<A, O, R, W, X>>
+        requires { D.gives reader writer }
+        ensures { IfCaller result (λ caller. D.gives caller.reader caller.writer) }
+    {
         let rt = self.shared.rt;
         if self.lines.is_full(rt) || !self.lines.make_room(rt) {
             return Guest::Refused;
@@ -139,7 +163,9 @@ impl<
     }
 
     // Waits at the door for the next line.
-    fn receive<R: Drop, W: Drop, D: Door<R, W, X>>(&self, door: &mut D) -> Guest<A, O, R, W, X> {
+    fn receive(&self, door: &mut D) -> Guest<Caller<A, O, R, W, X>>
+        ensures { IfCaller result (λ caller. D.gives caller.reader caller.writer) }
+    {
         match door.next() {
             Knock::Line(reader, writer, hangup) => self.welcome(reader, writer, hangup),
             Knock::Closed => Guest::Ended,
@@ -152,7 +178,7 @@ impl<
 
     // Waits until no line is served any more. Once the door is stopped those that are served are to
     // end.
-    fn wait_for_lines<R, W, D: Door<R, W, X>>(&self, door: &D) {
+    fn wait_for_lines(&self, door: &D) {
         let rt = self.shared.rt;
         for _ in rt.forever() {
             if door.is_stopped() {
@@ -167,10 +193,31 @@ impl<
     }
 
     // Serves a line that has come in, or turns it away where its session was shut before.
-    fn serve_caller<R: Read + Send + Drop, W: Write + Send + Drop>(
+    fn serve_or_turn_away(
         &self,
-        caller: Caller<A, O, R, W, X>,
-    ) {
+        reader: R,
+        writer: W,
+        hangup: &X,
+        asks: AskSeat<A>,
+        outs: OutSeat<O>,
+    ) -> LineDone<A, O, R, W>
+        requires { IsSeated asks outs }
+        ensures reads { Reads result.read.seat.session (R.remaining reader) (R.remaining result.reader.inner) result.read.transcript result.read.ended 0 result.read.seat.count }
+        ensures faults { Faults result.read.ended 0 result.reader.failures }
+        ensures writes { Writes (W.contents writer) (W.contents result.out.writer.inner) result.out.seat.count result.out.health result.out.writer.failures result.out.transcript }
+    {
+        let shared = &self.shared;
+        if shared.floor.is_open(shared.rt, asks.session()) {
+            shared.serve_line(reader, writer, hangup, asks, outs, READS)
+        } else {
+            shared.turn_away(reader, writer, hangup, asks, outs)
+        }
+    }
+
+    // The same, and notes what it read and wrote.
+    fn serve_caller(&self, caller: Caller<A, O, R, W, X>)
+        requires { D.gives caller.reader caller.writer }
+    {
         let Caller {
             reader,
             writer,
@@ -178,27 +225,20 @@ impl<
             asks,
             outs,
         } = caller;
-        let shared = &self.shared;
-        let done = if shared.floor.is_open(shared.rt, asks.session()) {
-            shared.serve_line(reader, writer, &*hangup, asks, outs, READS)
-        } else {
-            shared.turn_away(reader, writer, &*hangup, asks, outs)
-        };
-        let is_sealed = shared.floor.has_sealed(shared.rt);
-        self.lines.leave(shared.rt, done, is_sealed);
+        let rt = self.shared.rt;
+        let done = self.serve_or_turn_away(reader, writer, &*hangup, asks, outs);
+        let left = self.shared.floor.leave(rt, done.read.seat.session());
+        self.lines.leave(rt, done, left);
     }
 
     // Serves all lines of the door, each in a thread of its own, and settles meanwhile. A line for
     // which there is no thread is turned away at once, as one above those that are served.
-    fn serve_all<R: Read + Send + Drop, W: Write + Send + Drop, D: Door<R, W, X>>(
-        &self,
-        door: &mut D,
-    ) {
+    fn serve_all(&self, door: &mut D) {
         thread::scope(
             thread::scope_env(),
             self.shared.rt,
             |scope|
-                requires { IsSync T.row × IsSync G.row × IsSync C.row × IsSend H.row × IsSend A.row × IsSync A.row × IsSend O.row × IsSync O.row × IsSend R.row × IsSend W.row × IsSend X.row × IsSync X.row }
+                requires { IsSync T.row × IsSync G.row × IsSync C.row × IsSend H.row × IsSend A.row × IsSync A.row × IsSend O.row × IsSync O.row × IsSend R.row × IsSend W.row × IsSend X.row × IsSync X.row × IsSend D.row }
             {
                 let rt = self.shared.rt;
                 let Some(settling) = start(rt, scope, move || self.shared.settle_worker()) else {
@@ -215,11 +255,11 @@ impl<
                     // It says at its end what it served, so that nobody joins it.
                     let serving = scope.spawn(
                         move ||
-                            requires { IsSync T.row × IsSync G.row × IsSync C.row × IsSend H.row × IsSend A.row × IsSync A.row × IsSend O.row × IsSync O.row × IsSend R.row × IsSend W.row × IsSend X.row × IsSync X.row }
+                            requires { IsSync T.row × IsSync G.row × IsSync C.row × IsSend H.row × IsSend A.row × IsSync A.row × IsSend O.row × IsSync O.row × IsSend R.row × IsSend W.row × IsSend X.row × IsSync X.row × IsSend D.row × D.gives caller.reader caller.writer }
                         { self.serve_caller(caller) },
                     );
                     if let Err(refused) = serving {
-                        self.shared.floor.shut(rt, session);
+                        self.shared.floor.shut_for(rt, session, ShutFor::NoThread);
                         let turn_away = refused.value;
                         turn_away();
                     }
@@ -262,7 +302,8 @@ fn run_in<
     requires era { (1 ≤ bounds.era) × (bounds.era ≤ 16777216) }
     requires asks { (asks.name ≡ A.name) × (asks.parts ≡ A.parts) × (A.parts ≡ 2 ^ 31 + 1) }
     requires outs { (outs.name ≡ O.name) × (outs.parts ≡ O.parts) × (O.parts ≡ 2 ^ 31 + 1) }
-    ensures { IfOk result (Closes config.now) }
+    ensures closes { IfOk result (Closes config.now) }
+    ensures comes { IfOk result (ComeThrough D.gives R.remaining W.contents) }
 {
     let Ok(kept) = Kept::<H, A, O>::new(alloc, house, config, bounds.era, asks, outs) else {
         return Err(RunFault::NoMemory);
@@ -271,7 +312,7 @@ fn run_in<
         return Err(RunFault::NoMemory);
     };
     let mut door = door;
-    let lines = Lines::<X>::new(alloc, bounds.lines);
+    let lines = Lines::<R, W, X, D>::new(alloc, bounds.lines);
     let gate = RunGate {
         rt: &*rt,
         gate: &*gate,
@@ -287,7 +328,7 @@ fn run_in<
         },
         lines: &lines,
     };
-    server.serve_all::<R, W, D>(&mut door);
+    server.serve_all(&mut door);
     drop(server);
     drop(gate);
     finish(
@@ -303,6 +344,9 @@ fn run_in<
 /// Serves the lines of a door over an empty house until the door is closed and all have ended. A line above
 /// those that are served at once ends at once. The seed is for the replay at the end, and clients
 /// shouldn't know it.
+///
+/// Each whole line of the answer is one that the door gave: what it read and wrote is what came of its reader and
+/// went to its writer, and a failure is told where one was counted there.
 pub fn run_house<
     H: Backlog + Send,
     R: Read + Send + Drop,
@@ -325,7 +369,8 @@ pub fn run_house<
 ) -> Result<Closed, RunFault>
     requires house { H.view house ≡ empty config.now }
     requires era { (1 ≤ bounds.era) × (bounds.era ≤ 16777216) }
-    ensures { IfOk result (Closes config.now) }
+    ensures closes { IfOk result (Closes config.now) }
+    ensures comes { IfOk result (ComeThrough D.gives R.remaining W.contents) }
 {
     const PARTS: u64 = (1 << 31) + 1;
     run_in::<H, Brand, Brand, R, W, X, D, G, C, T>(

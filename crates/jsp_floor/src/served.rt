@@ -1,23 +1,39 @@
 //! What a run's lines read and wrote, and the faults that were met.
-ghost use Rattle.std.specs.Prelude.{◌≡◌, ◌⊎◌, ℕ, [], false, true, nat_lt, IfNone, IfSome, Vec};
+ghost use Rattle.std.specs.Prelude.{◌≡◌, ◌⊎◌, ℕ, [], false, true, nat_lt, is_some, IfNone, IfSome, Vec};
 ghost use Rattle.std.specs.declared.alloc.Global.{Global};
 ghost use Rattle.jsp_line.specs.declared.transcript.Transcript.TheVariants.{Dropped, Whole};
+ghost use Rattle.jsp_floor.specs.Doors.{MayCome};
 ghost use Rattle.jsp_floor.specs.Served.{Adds, AddsShort, fault_of, found_memory, is_short, noted, noted_line, noted_stop, report_of};
 
+use crate::door::Door;
 use jsp_closing::{LineReport, RunFault};
 use jsp_drive::Ended;
-use jsp_line::{Counted, Health, LineDone, OutDone, ReadDone};
+use jsp_line::{Counted, Health, Left, LineDone, OutDone, ReadDone};
 use jsp_model::Why;
 use std::alloc::Global;
 use std::io::{Read, Write};
+use std::marker::{Model, PhantomData};
 use std::sync::ledger::Ledger;
 
-/// What the threads of a run have answered so far.
+/// What the threads of a run have answered so far. Each line that is reported whole came through the door.
 #[derive(Drop)]
-pub(crate) struct Served {
+pub(crate) struct Served<R: Read, W: Write, X, D: Door<R, W, X>> {
     pub(crate) reports: Vec<LineReport>,
     pub(crate) fault: Option<RunFault>,
-    alloc: Global,
+    pub(crate) alloc: Global,
+    pub(crate) of: PhantomData<(R, W, X, D)>,
+}
+
+impl<R: Read, W: Write, X, D: Door<R, W, X>> Model for Served<R, W, X, D> {
+    ghost use Rattle.std.specs.Prelude.{All};
+    ghost use Rattle.jsp_floor.specs.Doors.{MayCome};
+    ghost use Rattle.jsp_floor.specs.Served.{Answered};
+
+    ghost Value = { Answered };
+
+    ghost view = { λ s. record { reports = s.reports.items; fault = s.fault } };
+
+    ghost invariant = { λ s. All (MayCome D.gives R.remaining W.contents) s.reports.items };
 }
 
 /// What a call that was stopped makes of a run.
@@ -51,6 +67,7 @@ fn report<A: Ledger, O: Ledger, R: Read + Drop, W: Write + Drop>(
     reader: Counted<R>,
     read: ReadDone<A>,
     out: OutDone<O, W>,
+    shut_by_house: bool,
 ) -> Option<LineReport>
     ensures session { IfSome result (λ report. report.session ≡ read.seat.session) }
     ensures is_whole { IfSome result (λ report. report.is_whole ≡ is_whole) }
@@ -59,6 +76,7 @@ fn report<A: Ledger, O: Ledger, R: Read + Drop, W: Write + Drop>(
     ensures written { IfSome result (λ report. out.transcript ≡ Whole report.written) }
     ensures read_failed { IfSome result (λ report. report.read_failed ≡ nat_lt 0 reader.failures) }
     ensures write_failed { IfSome result (λ report. report.write_failed ≡ nat_lt 0 out.writer.failures) }
+    ensures shut_by_house { IfSome result (λ report. report.shut_by_house ≡ shut_by_house) }
     ensures none { IfNone result ((read.transcript ≡ Dropped) ⊎ (out.transcript ≡ Dropped)) }
 {
     let session = read.seat.session();
@@ -72,6 +90,7 @@ fn report<A: Ledger, O: Ledger, R: Read + Drop, W: Write + Drop>(
         written,
         read_failed: reader.failures > 0,
         write_failed: out.writer.failures > 0,
+        shut_by_house,
     })
 }
 
@@ -88,15 +107,17 @@ fn short_report(alloc: Global, session: u64) -> LineReport
         written: Vec::new(alloc),
         read_failed: false,
         write_failed: false,
+        shut_by_house: false,
     }
 }
 
-impl Served {
-    pub(crate) fn new(alloc: Global) -> Served {
+impl<R: Read + Drop, W: Write + Drop, X, D: Door<R, W, X>> Served<R, W, X, D> {
+    pub(crate) fn new(alloc: Global) -> Served<R, W, X, D> {
         Served {
             reports: Vec::new(alloc),
             fault: None,
             alloc,
+            of: PhantomData,
         }
     }
 
@@ -124,14 +145,15 @@ impl Served {
     /// Whether there is memory for so many reports more.
     pub(crate) fn make_room(&mut self, count: usize) -> bool
         ensures fault { self.new.fault ≡ self.old.fault }
-        ensures reports { self.new.reports.items ≡ self.old.reports.items }
+        ensures reports { self.new.reports ≡ self.old.reports }
     {
         self.reports.reserve(count).is_ok()
     }
 
     // Adds a report.
     fn add_report(&mut self, report: LineReport)
-        ensures { Adds self.old.reports.items self.new.reports.items self.old.fault self.new.fault report }
+        requires { MayCome D.gives R.remaining W.contents report }
+        ensures { Adds self.old.reports self.new.reports self.old.fault self.new.fault report }
     {
         if self.reports.push(report).is_err() {
             self.fail(RunFault::NoMemory);
@@ -140,23 +162,23 @@ impl Served {
 
     /// Adds a report of a session of whose line not all is known, since memory was wanting.
     pub(crate) fn add_short(&mut self, session: u64)
-        ensures { AddsShort self.old.reports.items self.new.reports.items self.old.fault self.new.fault session }
+        ensures { AddsShort self.old.reports self.new.reports self.old.fault self.new.fault session }
     {
         self.add_report(short_report(self.alloc, session));
     }
 
-    /// Adds what a line read and wrote, and the faults that it met. Once an era was sealed no report is kept.
-    pub(crate) fn add_line<A: Ledger, O: Ledger, R: Read + Drop, W: Write + Drop>(
-        &mut self,
-        done: LineDone<A, O, R, W>,
-        is_sealed: bool,
-    )
-        ensures kept { (read written : Vec ℕ Global) → is_sealed ≡ false → done.read.transcript ≡ Whole read → done.out.transcript ≡ Whole written
-            → Adds self.old.reports.items self.new.reports.items (noted_line self.old.fault done.read.why done.why) self.new.fault
-            (report_of done.read.seat.session (found_memory done.read.why done.why done.out.health) done.read.ended read written (nat_lt 0 done.reader.failures) (nat_lt 0 done.out.writer.failures)) }
-        ensures dropped { is_sealed ≡ false → (done.read.transcript ≡ Dropped) ⊎ (done.out.transcript ≡ Dropped)
-            → AddsShort self.old.reports.items self.new.reports.items (noted_line self.old.fault done.read.why done.why) self.new.fault done.read.seat.session }
-        ensures sealed { is_sealed ≡ true → (self.new.reports.items ≡ []) × (self.new.fault ≡ noted_line self.old.fault done.read.why done.why) }
+    /// Adds what a line that came through the door read and wrote, and the faults that it met. Once an era was sealed no
+    /// report is kept.
+    pub(crate) fn add_line<A: Ledger, O: Ledger>(&mut self, done: LineDone<A, O, R, W>, left: Left)
+        requires { (read written : Vec ℕ Global) → done.read.transcript ≡ Whole read → done.out.transcript ≡ Whole written
+            → MayCome D.gives R.remaining W.contents
+            (report_of done.read.seat.session (found_memory done.read.why done.why done.out.health) done.read.ended read written (nat_lt 0 done.reader.failures) (nat_lt 0 done.out.writer.failures) (is_some left.shut_for)) }
+        ensures kept { (read written : Vec ℕ Global) → left.is_sealed ≡ false → done.read.transcript ≡ Whole read → done.out.transcript ≡ Whole written
+            → Adds self.old.reports self.new.reports (noted_line self.old.fault done.read.why done.why) self.new.fault
+            (report_of done.read.seat.session (found_memory done.read.why done.why done.out.health) done.read.ended read written (nat_lt 0 done.reader.failures) (nat_lt 0 done.out.writer.failures) (is_some left.shut_for)) }
+        ensures dropped { left.is_sealed ≡ false → (done.read.transcript ≡ Dropped) ⊎ (done.out.transcript ≡ Dropped)
+            → AddsShort self.old.reports self.new.reports (noted_line self.old.fault done.read.why done.why) self.new.fault done.read.seat.session }
+        ensures sealed { left.is_sealed ≡ true → (self.new.reports ≡ []) × (self.new.fault ≡ noted_line self.old.fault done.read.why done.why) }
     {
         let LineDone {
             reader,
@@ -166,13 +188,13 @@ impl Served {
         } = done;
         self.stop(read.why);
         self.stop(why);
-        if is_sealed {
+        if left.is_sealed {
             self.reports.clear();
             return;
         }
         let session = read.seat.session();
         let is_whole = has_found_memory(read.why, why, out.health);
-        match report(is_whole, reader, read, out) {
+        match report(is_whole, reader, read, out, left.shut_for.is_some()) {
             Some(report) => self.add_report(report),
             None => self.add_short(session),
         }

@@ -1,6 +1,7 @@
 pub mod Bytes
 pub mod Slots
 pub mod Seats
+pub mod Notes
 pub mod Halves
 pub mod Reading
 pub mod Turns

@@ -5,6 +5,8 @@ ghost use Rattle.jsp_line.specs.Seats.{Asks, IsSeated, taking};
 ghost use Rattle.jsp_line.specs.Halves.{said_in};
 
 use crate::counts::Counts;
+use crate::locked::{Left, Locked};
+use crate::notes::ShutFor;
 use jsp_drive::LineInput;
 use jsp_kept::{AskSeat, Backlog, Kept, OutSeat};
 use jsp_model::{Settled, Stopped};
@@ -37,7 +39,7 @@ const REST: u64 = 10;
 /// Of locks a thread takes that of its line's writing half first, then this one.
 #[derive(Drop)]
 pub struct Floor<H: Backlog, A: Ledger, O: Ledger> {
-    kept: Mutex<Kept<H, A, O>>,
+    locked: Mutex<Locked<H, A, O>>,
     lines: Vec<Condvar>,
     settling: Condvar,
     /// The last reading of the clock that was acted. It is set under the lock.
@@ -166,7 +168,7 @@ impl<H: Backlog, A: Ledger, O: Ledger> Floor<H, A, O> {
     ) -> Result<Floor<H, A, O>, NoMemory> {
         let spaces = kept.spaces().len();
         Ok(Floor {
-            kept: Mutex::new(kept),
+            locked: Mutex::new(Locked::new(alloc, kept)),
             lines: signals(alloc, lines)?,
             settling: Condvar::new(),
             time: AtomicU64::new(0),
@@ -182,16 +184,16 @@ impl<H: Backlog, A: Ledger, O: Ledger> Floor<H, A, O> {
 
     // The history, once no other thread has it. To sleep for it costs more than most holds of it take, so it is tried
     // for some microseconds first.
-    fn lock<T: Wait>(&self, rt: &T) -> MutexGuard<'_, Kept<H, A, O>> {
+    fn lock<T: Wait>(&self, rt: &T) -> MutexGuard<'_, Locked<H, A, O>> {
         for _ in 0..TRIES {
-            if let Some(kept) = self.kept.try_lock() {
-                return kept;
+            if let Some(locked) = self.locked.try_lock() {
+                return locked;
             }
             for _ in 0..PAUSES {
                 hint::spin_loop();
             }
         }
-        self.kept.lock(rt)
+        self.locked.lock(rt)
     }
 
     // The signal of a session's line. Sessions may share one, so all that wait on it are woken.
@@ -226,17 +228,17 @@ impl<H: Backlog, A: Ledger, O: Ledger> Floor<H, A, O> {
     fn wake_lines<T: Wait>(
         &self,
         rt: &T,
-        kept: &mut Kept<H, A, O>,
+        locked: &mut Locked<H, A, O>,
         own: Option<u64>,
     ) -> Option<u64> {
         let mut shut = None;
         let mut after = 0;
         for _ in rt.forever() {
-            let Some(session) = kept.next_waiting(after) else {
+            let Some(session) = locked.kept.next_waiting(after) else {
                 break;
             };
-            if shut.is_none() && self.is_over(kept, session) {
-                kept.shut(session);
+            if shut.is_none() && self.is_over(&locked.kept, session) {
+                locked.shut_for(session, ShutFor::Backlog);
                 shut = Some(session);
             }
             if own != Some(session) {
@@ -275,7 +277,8 @@ impl<H: Backlog, A: Ledger, O: Ledger> Floor<H, A, O> {
     pub(crate) fn count<T: Wait>(&self, rt: &T, alloc: Global) -> Result<Counts, NoMemory> {
         let mut refusals = Vec::with_capacity(alloc, self.refusals.len())?;
         let mut spaces = Vec::with_capacity(alloc, self.spaces)?;
-        let kept = self.lock(rt);
+        let locked = self.lock(rt);
+        let kept = &locked.kept;
         for count in self.refusals.as_slice() {
             refusals.push(count.load(Ordering::SeqCst))?;
         }
@@ -293,17 +296,16 @@ impl<H: Backlog, A: Ledger, O: Ledger> Floor<H, A, O> {
         })
     }
 
-    /// Whether an era was sealed, so that nobody asks for what lines read and wrote.
-    pub fn has_sealed<T: Wait>(&self, rt: &T) -> bool {
-        self.kept.lock(rt).is_sealed()
-    }
-
     /// Opens a session, and answers its two seats.
     pub fn begin<T: Wait>(&self, rt: &T) -> Result<(AskSeat<A>, OutSeat<O>), Stopped>
         ensures { IfOk result (λ s. IsSeated s.0 s.1) }
     {
-        let mut kept = self.kept.lock(rt);
-        Ok(kept.begin()?.split())
+        self.locked.lock(rt).begin()
+    }
+
+    /// How the session's line leaves, which has ended.
+    pub fn leave<T: Wait>(&self, rt: &T, session: u64) -> Left {
+        self.locked.lock(rt).leave(session)
     }
 
     /// An act of a line, which read and wrote so many bytes since its last one, and its next answers, in one hold of
@@ -323,12 +325,13 @@ impl<H: Backlog, A: Ledger, O: Ledger> Floor<H, A, O> {
         ensures asks { Asks asks.old asks.new }
         ensures outs { outs.new ≡ taking outs.old (length (said_in result.said)) }
     {
-        let mut kept = self.lock(rt);
-        self.weigh(&mut *kept, bytes);
-        kept.free_some();
-        let mut held = hold(&mut *kept, asks, self.later(time), given, outs);
+        let mut guard = self.lock(rt);
+        let locked = &mut *guard;
+        self.weigh(&mut locked.kept, bytes);
+        locked.kept.free_some();
+        let mut held = hold(&mut locked.kept, asks, self.later(time), given, outs);
         self.note_refusals(&held.said);
-        held.shut = self.wake_lines(rt, &mut *kept, None);
+        held.shut = self.wake_lines(rt, locked, None);
         if held.acted.is_err() {
             self.settling.notify_all();
         }
@@ -345,9 +348,10 @@ impl<H: Backlog, A: Ledger, O: Ledger> Floor<H, A, O> {
     ) -> (Result<Vec<Said>, Stopped>, bool)
         ensures { outs.new ≡ taking outs.old (length (said_in result.0)) }
     {
-        let mut kept = self.lock(rt);
-        self.weigh(&mut *kept, bytes);
-        let said = take_from(&mut *kept, outs);
+        let mut guard = self.lock(rt);
+        let kept = &mut guard.kept;
+        self.weigh(kept, bytes);
+        let said = take_from(kept, outs);
         self.note_refusals(&said);
         (said, kept.is_sealed())
     }
@@ -355,32 +359,39 @@ impl<H: Backlog, A: Ledger, O: Ledger> Floor<H, A, O> {
     /// Waits until something waits for the session, or it is closed, or an era was sealed, where
     /// its line wasn't told of one.
     pub(crate) fn wait_for<T: Wait>(&self, rt: &T, session: u64, is_told: bool) -> Call {
-        let mut kept = self.kept.lock(rt);
+        let mut locked = self.locked.lock(rt);
         for _ in rt.forever() {
-            if !kept.is_open(session) {
+            if !locked.kept.is_open(session) {
                 return Call::Closed;
             }
             if self.is_sealed.load(Ordering::SeqCst) && !is_told {
                 return Call::Sealed;
             }
-            if kept.next_waiting(session.saturating_sub(1)) == Some(session) {
+            if locked.kept.next_waiting(session.saturating_sub(1)) == Some(session) {
                 return Call::Answers;
             }
-            kept = self.signal(session).wait(rt, kept);
+            locked = self.signal(session).wait(rt, locked);
         }
         unreachable!()
     }
 
-    /// Closes the session, if it is open, and wakes its line, which ends.
+    /// Closes the session for its own line, if it is open, and wakes that, which ends.
     pub fn shut<T: Wait>(&self, rt: &T, session: u64) {
-        let mut kept = self.kept.lock(rt);
-        kept.shut(session);
+        let mut locked = self.locked.lock(rt);
+        locked.kept.shut(session);
+        self.signal(session).notify_all();
+    }
+
+    /// Closes the session by itself, if it is open, notes why, and wakes its line, which ends.
+    pub fn shut_for<T: Wait>(&self, rt: &T, session: u64, why: ShutFor) {
+        let mut locked = self.locked.lock(rt);
+        locked.shut_for(session, why);
         self.signal(session).notify_all();
     }
 
     /// Whether the session is open.
     pub fn is_open<T: Wait>(&self, rt: &T, session: u64) -> bool {
-        self.kept.lock(rt).is_open(session)
+        self.locked.lock(rt).kept.is_open(session)
     }
 
     /// Whether an era is known to be sealed, and lines keep no bytes.
@@ -401,21 +412,23 @@ impl<H: Backlog, A: Ledger, O: Ledger> Floor<H, A, O> {
 
     // Whether an era was sealed, which is known from then on.
     fn sees_seal<T: Wait>(&self, rt: &T) -> bool {
-        let kept = self.kept.lock(rt);
-        self.is_sealed.store(kept.is_sealed(), Ordering::SeqCst);
-        kept.is_sealed()
+        let locked = self.locked.lock(rt);
+        let is_sealed = locked.kept.is_sealed();
+        self.is_sealed.store(is_sealed, Ordering::SeqCst);
+        is_sealed
     }
 
     /// A settle turn, after this reading of the clock, where it is a later one. All lines that have answers
     /// waiting then are woken, but that of the caller's own session, where it has one and takes them itself.
     pub(crate) fn settle<T: Wait>(&self, rt: &T, time: u64, own: Option<u64>) -> Turned {
-        let mut kept = self.lock(rt);
-        kept.free_some();
-        let settled = settle_at(&mut *kept, self.later(time));
+        let mut guard = self.lock(rt);
+        let locked = &mut *guard;
+        locked.kept.free_some();
+        let settled = settle_at(&mut locked.kept, self.later(time));
         Turned {
             settled,
-            is_voting: kept.is_voting(),
-            shut: self.wake_lines(rt, &mut *kept, own),
+            is_voting: locked.kept.is_voting(),
+            shut: self.wake_lines(rt, locked, own),
             ended: self.ended.load(Ordering::SeqCst),
         }
     }
@@ -423,13 +436,13 @@ impl<H: Backlog, A: Ledger, O: Ledger> Floor<H, A, O> {
     /// Waits until something is to settle, or the clock is to be read. After a turn that was stopped
     /// it waits though something is to settle.
     pub(crate) fn rest<T: Wait + time::Clock>(&self, rt: &T, was_stopped: bool) {
-        let kept = self.kept.lock(rt);
-        if self.ended.load(Ordering::SeqCst) || kept.is_voting() && !was_stopped {
+        let locked = self.locked.lock(rt);
+        if self.ended.load(Ordering::SeqCst) || locked.kept.is_voting() && !was_stopped {
             return;
         }
-        let (_kept, _timed_out) = self
+        let (_locked, _timed_out) = self
             .settling
-            .wait_timeout(rt, kept, Duration::from_millis(REST));
+            .wait_timeout(rt, locked, Duration::from_millis(REST));
     }
 
     /// Has the settling worker take the next turn.
@@ -439,7 +452,7 @@ impl<H: Backlog, A: Ledger, O: Ledger> Floor<H, A, O> {
 
     /// Tells the settling worker that all lines have ended.
     pub fn end<T: Wait>(&self, rt: &T) {
-        let _kept = self.kept.lock(rt);
+        let _locked = self.locked.lock(rt);
         self.ended.store(true, Ordering::SeqCst);
         self.settling.notify_all();
     }
@@ -447,7 +460,7 @@ impl<H: Backlog, A: Ledger, O: Ledger> Floor<H, A, O> {
     /// The history, once all threads have ended.
     pub fn into_kept(self) -> Kept<H, A, O> {
         let Floor {
-            kept,
+            locked,
             lines: _,
             settling: _,
             time: _,
@@ -459,7 +472,8 @@ impl<H: Backlog, A: Ledger, O: Ledger> Floor<H, A, O> {
             refusals: _,
             spaces: _,
         } = self;
-        kept.into_inner()
+        let Locked { kept, notes: _ } = locked.into_inner();
+        kept
     }
 }
 

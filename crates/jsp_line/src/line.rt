@@ -10,6 +10,7 @@ use crate::counted::Counted;
 use crate::gate::{Clock, Gate};
 use crate::half::{Health, OutDone, OutHalf, Start};
 use crate::hangup::Hangup;
+use crate::notes::ShutFor;
 use crate::read::ReadDone;
 use crate::shared::Shared;
 use crate::slot::{Owner, Slot};
@@ -79,7 +80,7 @@ impl<
                     .ok();
                 if answering.is_none() {
                     // Nobody would write what others cause to be said to the line: it ends at once.
-                    self.floor.shut(self.rt, session);
+                    self.floor.shut_for(self.rt, session, ShutFor::NoThread);
                     hangup.hang_up();
                 }
                 let read = self.read_worker(half, reader, owner, hangup.requests(), asks, bound);
@@ -189,6 +190,7 @@ impl<
         ensures outs { result.out.seat ≡ outs }
         ensures reader { (result.reader.inner ≡ reader) × (result.reader.failures ≡ 0) }
         ensures writer { (result.out.writer.inner ≡ writer) × (result.out.writer.failures ≡ 0) }
+        ensures faults { Faults result.read.ended 0 result.reader.failures }
         ensures reads { Reads asks.session (R.remaining reader) (R.remaining result.reader.inner) result.read.transcript result.read.ended 0 result.read.seat.count }
         ensures writes { Writes (W.contents writer) (W.contents result.out.writer.inner) result.out.seat.count result.out.health result.out.writer.failures result.out.transcript }
     {

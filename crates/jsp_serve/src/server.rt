@@ -1,6 +1,7 @@
 //! A server on a listener.
 ghost use Rattle.std.specs.Prelude.{◌≤◌, IfOk};
 ghost use Rattle.jsp_closing.specs.Closing.{Closes};
+ghost use Rattle.jsp_floor.specs.Doors.{AreServed};
 
 use crate::board::Board;
 use crate::connections::Connections;
@@ -131,6 +132,10 @@ pub struct Service {
 /// Serves the connections of the listener over the spaces of `config`, and ends when there were as many as
 /// `service` says and all have ended, or in order once it is asked to `stop`. Meanwhile it puts its status on the board
 /// where that is asked for.
+///
+/// Each whole line of the answer is a connection's: what it read is what was asked by it and counted, what it wrote are the
+/// frames of the answers that it took, and a failure is told where a call of its socket failed. Of what a socket gives or
+/// takes nothing is known.
 pub fn serve<T: Threads + Wait + SystemClock + Sync>(
     rt: &T,
     alloc: Global,
@@ -142,7 +147,8 @@ pub fn serve<T: Threads + Wait + SystemClock + Sync>(
     board: Option<&Board>,
 ) -> Result<Closed, RunFault>
     requires { (1 ≤ service.bounds.era) × (service.bounds.era ≤ 16777216) }
-    ensures { IfOk result (Closes config.now) }
+    ensures closes { IfOk result (Closes config.now) }
+    ensures served { IfOk result AreServed }
 {
     let Ok(house) = Hall::new(alloc, config, service.seeds.house) else {
         return Err(RunFault::NoMemory);

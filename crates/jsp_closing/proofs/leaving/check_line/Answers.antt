@@ -1,8 +1,7 @@
-use Rattle.std.proofs.Common.{◌∙◌, ℕ, Bool, List, sym, subst, inl, inr, arith}
+use Rattle.std.proofs.Common.{◌∙◌, ℕ, List, sym, subst, inl, inr, arith}
 use Rattle.jsp_drive.specs.Streams.{requests_of}
 use Rattle.jsp_drive.specs.Giving.{Gave}
 use Rattle.jsp_closing.specs.Asking.{SaysMore}
-use Rattle.jsp_closing.specs.Lines.{MayEnd}
 use Rattle.jsp_closing.proofs.leaving.check_line.Goals as goal
 
 pub returns : goal.returns
@@ -17,8 +16,9 @@ returns c = λ steps shut gave. (
         says = subst (λ (read : List ℕ). Gave s read asked c.args.line.now → SaysMore s read asked c.in_ok-more.more) c.as_slice.ensures.value (c.in_ok-more.ensures s asked) (gave whole);
         may_leave = λ sound. elim (c.may_leave.ensures c.if-not-may_leave.false sound) [
           | inl none ↦ inl none
-          | inr more ↦ elim more [ inl itself ↦ inr (inl (itself.0, sym shut ∙ itself.1)) | inr cut ↦ inr (inr (record { cut = cut.0; shut = sym shut ∙ cut.1 })) ]
+          | inr more ↦ elim more [ inl itself ↦ inr (inl (itself.0, sym shut ∙ itself.1)) | inr cut ↦ inr (inr (record { cut = cut.0; by_house = cut.1.0; shut = sym shut ∙ cut.1.1 })) ]
         ];
-        ended = subst (λ (b : Bool). MayEnd c.args.report.now.ended c.args.report.now.write_failed b) shut (c.may_end.ensures c.if-not-may_end.false);
+        ended = c.may_end.ensures c.if-not-may_end.false;
+        noted = λ noted. sym shut ∙ c.is_noted_truly.ensures c.if-not-is_noted_truly.false noted;
       },
 )
