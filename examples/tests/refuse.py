@@ -25,6 +25,8 @@ GROWTHS, THREADS, ACCEPTS, SENDS = 0, 24, 48, 72  # where the control file has t
 REASONS = 7  # why a connection is refused
 NAMED = 16  # how many sessions a server names
 MANY = 2**62
+RETRIES = 40  # how often a growth of a script's calls is refused
+NOT_BEGUN = 2  # the status of jsp_retry where it couldn't begin
 
 
 class Refusing:
@@ -347,7 +349,42 @@ def shell(refusing):
     server.kill()
 
 
-CASES = [scripts, served, famine, ended, unmet, threads, lonely, accepts, sends, shell]
+def opened_in_order(text):
+    numbers = [int(line.split()[1]) for line in text.decode().splitlines() if line.startswith("open ")]
+    return numbers == list(range(1, len(numbers) + 1))
+
+
+def retried(refusing):
+    """Growths of calls of a house alone, and of one with its history, are refused: a call that is stopped is made again,
+    or what it left is finished, and all is answered as else. Scripts with bytes that are no frames are left out."""
+    program = Path(refusing.program[0]).parents[2] / "jsp_retry" / "out" / "jsp_retry"
+    retrying = Refusing(refusing.environment["LD_PRELOAD"], [program])
+    paths = sorted([*TESTS.parent.glob("*.script"), *TESTS.glob("*.script")])
+    texts = {path: path.read_bytes() for path in paths}
+    for house in ("hall", "rows", "kept"):
+        unmade, made, runs = 0, 0, 0
+        for path, text in texts.items():
+            if b"\nhex " in text or (house == "kept" and not opened_in_order(text)):
+                continue
+            printed = path.with_suffix(".expected").read_bytes()
+            retrying.refuse(GROWTHS, 0)
+            assert retrying.run(text, house) == (printed, b"0 0\n", 0), (house, path)
+            growths = retrying.count(GROWTHS)
+            step = max(1, growths // RETRIES)
+            for growth in range(1 + runs % step, growths + 1, step):
+                runs += 1
+                retrying.refuse(GROWTHS, growth)
+                out, told, status = retrying.run(text, house)
+                if status == NOT_BEGUN:
+                    assert out == b"", (house, path, growth, out)
+                    continue
+                assert (out, status) == (printed, 0), (house, path, growth, out, told, status)
+                counts = told.split()
+                unmade, made = unmade + int(counts[0]), made + int(counts[1])
+        assert unmade > runs // 4 and made > 0, (house, unmade, made, runs)
+
+
+CASES = [scripts, served, famine, ended, unmet, threads, lonely, accepts, sends, shell, retried]
 CASES = {case.__name__: case for case in CASES}
 
 if __name__ == "__main__":

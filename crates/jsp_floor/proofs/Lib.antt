@@ -1,2 +1,2 @@
-mod Ending
+pub mod Ending
 pub mod Coming

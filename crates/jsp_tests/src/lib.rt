@@ -12,6 +12,8 @@ mod decisions;
 #[cfg(test)]
 mod frames;
 #[cfg(test)]
+mod histories;
+#[cfg(test)]
 mod leases;
 #[cfg(test)]
 mod news;
@@ -21,7 +23,5 @@ mod outboxes;
 mod pages;
 #[cfg(test)]
 mod requests;
-#[cfg(test)]
-mod runs;
 #[cfg(test)]
 mod spaces;
