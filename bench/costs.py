@@ -1,11 +1,16 @@
 """What kinds of requests cost, beside what stands: processor time of scripts, as a table in Markdown.
 
-    python3 costs.py PROGRAM [ROUNDS]
+    python3 costs.py PROGRAM [ROUNDS] [WORDS]
+    python3 costs.py goals PROGRAM [ROUNDS] [WORDS]
 
 Each row is a script that is run with and without what is to be measured, in turn, and the median difference of their
 processor times is divided by how often it was done. PROGRAM is the program itself, so that what a shell costs is not
-counted.
+counted. With WORDS only those rows are measured that have them in their names.
+
+The second table is of what stands and waits, and who pays for it. Its figures are those beside nothing and beside ever
+more, of which one is twice another, and each row has a goal.
 """
+import json
 import os
 import statistics
 import subprocess
@@ -19,6 +24,15 @@ CLASS = '{"op":"declare","class":"Job","fields":{"k":"int","who":"text"}}'
 def job(value, who=None):
     named = f',"who":"{who}"' if who else ""
     return f'{{"class":"Job","fields":{{"k":{value}{named}}}}}'
+
+
+def compact(value):
+    return json.dumps(value, separators=(",", ":"))
+
+
+def entry(name, **fields):
+    """An entry of the class of this name, or a template."""
+    return compact({"class": name, "fields": fields})
 
 
 class Script:
@@ -48,19 +62,42 @@ class Script:
         self.number += 1
         return self.number
 
-    def write(self, value, space="a", lease=HOUR, txn=None, who=None):
+    def declare(self, name, parent=None, **kinds):
+        below = f'"parent":"{parent}",' if parent else ""
+        self.send(f'{{"op":"declare","class":"{name}",{below}"fields":{compact(kinds)}}}')
+
+    def write(self, value, space="a", lease=HOUR, txn=None, who=None, session=1):
+        return self.write_entry(job(value, who), space, lease, txn, session)
+
+    def write_entry(self, written, space="a", lease=HOUR, txn=None, session=1):
         under = f',"txn":{txn}' if txn else ""
-        return self.grant(f'{{"op":"write","space":"{space}","entry":{job(value, who)},"lease":{lease}{under}}}')
+        return self.grant(f'{{"op":"write","space":"{space}","entry":{written},"lease":{lease}{under}}}', session)
+
+    def write_all(self, entries):
+        """Up to 64 entries. The session has to have version 2."""
+        self.send(f'{{"op":"write_all","space":"a","entries":[{",".join(entries)}],"lease":{HOUR}}}')
+        self.number += len(entries)
 
     def find(self, operation, value, space="a", timeout=0, txn=None, session=1, who=None):
+        self.search(operation, "null" if value is None else job(value, who), space, timeout, txn, session)
+
+    def search(self, operation, template, space="a", timeout=0, txn=None, session=1):
         under = f',"txn":{txn}' if txn else ""
-        template = "null" if value is None else job(value, who)
         self.send(
             f'{{"op":"{operation}","space":"{space}","template":{template},"timeout":{timeout}{under}}}', session
         )
 
-    def notify(self, value, space="a"):
-        return self.grant(f'{{"op":"notify","space":"{space}","template":{job(value)},"lease":{HOUR},"handback":""}}')
+    def take_many(self, templates, most=16, txn=None):
+        """The session has to have version 2."""
+        under = f',"txn":{txn}' if txn else ""
+        self.send(
+            f'{{"op":"take_many","space":"a","templates":[{",".join(templates)}],"most":{most},"timeout":0{under}}}'
+        )
+
+    def notify(self, value, space="a", who=None):
+        return self.grant(
+            f'{{"op":"notify","space":"{space}","template":{job(value, who)},"lease":{HOUR},"handback":""}}'
+        )
 
     def begin(self):
         return self.grant(f'{{"op":"txn","lease":{HOUR}}}')
@@ -81,6 +118,15 @@ class Script:
                 session = self.open()
                 self.send(CLASS, session)
             self.find("take", first + value, timeout=HOUR, session=session)
+
+    def wait_for(self, jobs, operation="take"):
+        """Requests of these jobs that wait, 64 a session. Each is given a number too. Nothing is declared in between,
+        since that may look at all that waits."""
+        for place, (value, who) in enumerate(jobs):
+            if place % 64 == 0:
+                session = self.open()
+            self.find(operation, value, who=who, timeout=HOUR, session=session)
+            self.number += 1
 
     def text(self):
         return "\n".join(self.lines) + "\n"
@@ -319,7 +365,7 @@ def open_sets(script, txn=None):
     under = f',"txn":{txn}' if txn else ""
     script.send('{"op":"hello","version":2}')
     for _ in range(SETS):
-        script.grant(f'{{"op":"contents","space":"a","template":{{"class":"Job","fields":{{}}}},"lease":{HOUR}{under}}}')
+        script.grant(f'{{"op":"contents","space":"a","template":{entry("Job")},"lease":{HOUR}{under}}}')
     return script
 
 
@@ -365,7 +411,7 @@ def holders(most):
         for _ in range(HOLDERS):
             txn = hold_elsewhere(script)
             if most:
-                script.send(f'{{"op":"take_many","space":"a","templates":[null],"most":{most},"timeout":0,"txn":{txn}}}')
+                script.take_many(["null"], most, txn)
             script.send(f'{{"op":"abort","txn":{txn}}}')
         return script
 
@@ -425,22 +471,311 @@ def rows():
     yield "a reading of the clock", STANDING, standing, readings, MANY
 
 
-def main():
-    program = sys.argv[1]
-    rounds = int(sys.argv[2]) if len(sys.argv) > 2 else 3
-    only = sys.argv[3] if len(sys.argv) > 3 else ""
+# ---- what stands and waits, and who pays for it
+
+WAITS = (0, 6_400, 12_800)
+COMMITTED, PUBLISHED = 4, 2_560
+CANCELS, CANCELLED = 5_000, 4
+# So many microseconds are long enough to tell. A script that takes so many seconds is run once.
+ENOUGH, LONG = 500_000, 10
+
+
+def cost_of_each(program, rounds, script_of, count, most):
+    """Microseconds for each, of as many as take long enough, or of the most."""
+    few = max(1, most // 10)
+    before = script_of(count, 0).text()
+    (less, _), (more, _) = run(program, before), run(program, script_of(count, few).text())
+    micros = (more - less) * 1e6 / few
+    if more > LONG:
+        return micros
+    times = most if micros * most <= ENOUGH else max(few, int(ENOUGH / micros))
+    micros, _ = measure(program, rounds, before, script_of(count, times).text(), times)
+    return micros
+
+
+def sharing(place, own):
+    """The values of a job: in the first or second place one that all of these have, and one of its own."""
+    return (5, f"own {own}") if place == "first" else (own, "shared")
+
+
+def write_sharing(script, place, times):
+    for own in range(times):
+        value, who = sharing(place, -1 - own)
+        script.write(value, who=who)
+    return script
+
+
+def writes_beside_takes(place):
+    """Takes wait by two values, of which one is that of all that is written."""
+    def script_of(count, times):
+        script = Script()
+        script.wait_for(sharing(place, own) for own in range(count))
+        return write_sharing(script, place, times)
+
+    return script_of
+
+
+def writes_beside_listeners(place):
+    """The same of registrations."""
+    def script_of(count, times):
+        script = Script()
+        for own in range(count):
+            value, who = sharing(place, own)
+            script.notify(value, who=who)
+        return write_sharing(script, place, times)
+
+    return script_of
+
+
+def commits_beside(value, who):
+    """Transactions that wrote entries with k 5 and who yes are committed, where takes of one other job wait. What the
+    commits put off is done before the reads behind them."""
+    def script_of(count, times):
+        script = Script()
+        txns = [script.begin() for _ in range(COMMITTED)]
+        for txn in txns:
+            for _ in range(PUBLISHED):
+                script.write(5, txn=txn, who="yes")
+        script.wait_for([(value, who)] * count)
+        for txn in txns[:times]:
+            script.commit(txn, 1)
+            script.lines.append("settle")
+            script.find("read", -1)
+        return script
+
+    return script_of
+
+
+def asked_beside_take_if(count, times):
+    """Reads and writes of other values, where each of so many waits for an entry that a transaction took."""
+    script = holding("take")(count)
+    script.wait_for(((value, None) for value in range(count)), "take_if")
+    for value in range(times):
+        script.find("read", -1 - value)
+        script.write(80_000_000 + value)
+    return script
+
+
+HALVES = "ab", "cdef"
+FIELDS = "".join(HALVES)
+# Eight templates of a field of each half.
+CROSSED = [entry("Pair", **{one: 1, other: 1}) for one in HALVES[0] for other in HALVES[1]]
+
+
+def halves(count):
+    """So many entries that have 1 in the fields of one half and 0 in the others, and by turns as many the other way."""
+    script = Script()
+    script.send('{"op":"hello","version":2}')
+    script.declare("Pair", **dict.fromkeys(FIELDS, "int"))
+    two = [entry("Pair", **{name: int(name in half) for name in FIELDS}) for half in HALVES]
+    for first in range(0, count, 32):
+        script.write_all(two * min(32, count - first))
+    return script
+
+
+def reads_crossed(count, times):
+    script = halves(count)
+    for _ in range(times):
+        script.search("read", CROSSED[0])
+    return script
+
+
+def takes_crossed(count, times):
+    script = halves(count)
+    for _ in range(times):
+        script.take_many(CROSSED)
+    return script
+
+
+def with_classes(count, parent=None):
+    """So many classes that have four entries each, all with one value of k."""
+    script = Script()
+    kinds = {} if parent else {"k": "int"}
+    for place in range(count):
+        script.declare(f"Class{place}", parent, **kinds)
+        for _ in range(4):
+            script.write_entry(entry(f"Class{place}", k=5))
+    return script
+
+
+def reads_below(**fields):
+    """Reads of a parent of these classes. An entry of the last class has a value that no other has."""
+    def script_of(count, times):
+        script = with_classes(count, "Job")
+        script.write_entry(entry(f"Class{count - 1}" if count else "Job", k=6))
+        for _ in range(times):
+            script.search("read", entry("Job", **fields))
+        return script
+
+    return script_of
+
+
+def reads_of_empty(**fields):
+    """Reads of a class that has no entries, beside these classes."""
+    def script_of(count, times):
+        script = with_classes(count)
+        script.declare("Empty", k="int")
+        for _ in range(times):
+            script.search("read", entry("Empty", **fields))
+        return script
+
+    return script_of
+
+
+def waiting_for_others(script, count):
+    """The script with takes of values that nothing has."""
+    script.wait_for((20_000_000 + value, None) for value in range(count))
+    return script
+
+
+def declarations_again(count, times):
+    script = waiting_for_others(Script(), count)
+    for _ in range(times):
+        script.send(CLASS)
+    return script
+
+
+def declarations(count, times):
+    script = waiting_for_others(Script(), count)
+    for place in range(times):
+        script.declare(f"Class{place}", k="int")
+    return script
+
+
+def cancels(count, times):
+    """Entries are cancelled by who wrote them, some at a time."""
+    script = standing(CANCELS * CANCELLED)
+    waiting_for_others(script, count)
+    for first in range(1, times * CANCELLED, CANCELLED):
+        leases = list(range(first, first + CANCELLED))
+        script.send(f'{{"op":"cancel_all","leases":{compact(leases)}}}')
+    return script
+
+
+def with_sessions(count):
+    """So many sessions are opened, beside that of each script."""
+    script = Script()
+    for _ in range(count):
+        script.open()
+    return script
+
+
+def spaces_of_last(count, times):
+    script = with_sessions(count)
+    for _ in range(times):
+        script.send('{"op":"spaces"}', script.sessions)
+    return script
+
+
+def writes_of_last(count, times):
+    script = with_sessions(count)
+    for value in range(times):
+        script.write(value, session=script.sessions)
+    return script
+
+
+def rows_with_goals():
+    """Name, what stands, the goal, the script that asks so often beside so much, and how often it can ask at most."""
+    as_beside_none = "1.5 times that beside none"
+    for place in "first", "second":
+        name = f"a write, beside takes that wait by two values, the {place} in common with it"
+        yield name, (0, 10_000, 20_000), as_beside_none, writes_beside_takes(place), MANY
+    for place in "first", "second":
+        name = f"a write, beside registrations by two values, the {place} in common with it"
+        yield name, (0, 2_048, 4_096), as_beside_none, writes_beside_listeners(place), MANY
+    for place, value, who in ("first", 5, "no"), ("second", 6, "yes"):
+        name = f"a commit of {PUBLISHED:,} entries, beside takes by two values, the {place} in common with them"
+        yield name, WAITS, "20,000", commits_beside(value, who), COMMITTED
+    yield "a read that finds nothing and a write, beside `take_if`s that wait for held entries of other values", (
+        0, 1_000, 4_000, 6_400, 12_800
+    ), as_beside_none, asked_beside_take_if, MANY // 2
+    sizes = 0, 10_000, 20_000, 30_000
+    yield "a read by two values that so many entries have each, and none both", sizes, "30", reads_crossed, MANY
+    yield "a take of several by eight such templates", sizes, "8 times 30", takes_crossed, MANY // 8
+    sizes = 0, 10, 100, 500, 1_000
+    yield "a read by a value that one entry has, of a class that so many are below", sizes, "20", reads_below(k=6), MANY
+    yield "a read of any entry of a class that so many are below", sizes, "20", reads_below(), MANY
+    yield "a read of a class without entries, beside others that have some", sizes, "20", reads_of_empty(), MANY
+    yield "the same, by a value that all these have", sizes, "20", reads_of_empty(k=5), MANY
+    yield "a declaration again, beside takes that wait", WAITS, as_beside_none, declarations_again, MANY
+    yield "a declaration, beside takes that wait", WAITS, as_beside_none, declarations, 1_000
+    yield f"a cancel of {CANCELLED} leases, beside takes of others that wait", WAITS, as_beside_none, cancels, CANCELS
+    sizes = 0, 500, 2_000, 4_000
+    yield "`spaces` of the last session, beside others", sizes, "that beside none", spaces_of_last, MANY
+    yield "a write of the last session, beside others", sizes, "that beside none", writes_of_last, MANY
+
+
+def fill(script, first, count, texts):
+    """So many entries of other values, and of so many texts."""
+    for start in range(first, first + count, 64):
+        values = range(start, min(start + 64, first + count))
+        script.write_all([job(value, f"text {value % texts}") for value in values])
+
+
+def filled_twice(emptied, count, texts):
+    """Entries, and as many again. In between this space is emptied, or the other one, which is empty. So both scripts
+    ask, answer and keep a history alike, and differ in what stands at the end alone."""
+    script = Script()
+    script.send('{"op":"hello","version":2}')
+    fill(script, 0, count, texts)
+    script.send(f'{{"op":"reset","space":"{emptied}"}}')
+    fill(script, count, count, texts)
+    return script
+
+
+def show(*cells):
+    print("|", " | ".join(cells), "|", flush=True)
+
+
+def listed(counts):
+    return ", ".join(f"{count:,}" for count in counts)
+
+
+def print_kinds(program, rounds, words):
     print("| What | Beside, or how many | Processor time of each, in µs |", "|---|---|---|", sep="\n")
     for name, counts, before, after, many in rows():
-        if only not in name:
+        if words not in name:
             continue
         found = []
         for count in counts:
             micros, _ = measure(program, rounds, before(count).text(), after(count).text(), many or count)
             found.append(f"{micros:.1f}")
-        print(f"| {name} | {', '.join(f'{count:,}' for count in counts)} | {', '.join(found)} |", flush=True)
+        show(name, listed(counts), ", ".join(found))
     for name, flags in (("60,000 writes", ()), ("60,000 writes with `--audit`", ("--audit",))):
-        micros, each = measure(program, rounds, nothing(0).text(), standing(60_000).text(), 60_000, *flags)
-        print(f"| {name} | {each:,.0f} bytes of memory each | {micros:.1f} |", flush=True)
+        if words in name:
+            micros, each = measure(program, rounds, nothing(0).text(), standing(60_000).text(), 60_000, *flags)
+            show(name, f"{each:,.0f} bytes of memory each", f"{micros:.1f}")
+
+
+def bytes_of_each(program, rounds, count, texts):
+    scripts = [filled_twice(emptied, count, texts).text() for emptied in "ab"]
+    _, each = measure(program, rounds, *scripts, count)
+    return each
+
+
+def print_goals(program, rounds, words):
+    print("| What | Beside, or how many | Processor time of each, in µs | Goal |", "|---|---|---|---|", sep="\n")
+    for name, counts, goal, script_of, most in rows_with_goals():
+        if words in name:
+            found = [cost_of_each(program, rounds, script_of, count, most) for count in counts]
+            show(name, listed(counts), ", ".join(f"{micros:,.1f}" for micros in found), goal)
+    counts = 10_000, 20_000
+    for name, texts in ("of its own", max(counts) * 2), ("of one of ten", 10):
+        name = f"a stored entry of an int of its own and a short text {name}"
+        if words in name:
+            found = [bytes_of_each(program, rounds, count, texts) for count in counts]
+            show(name, listed(counts), f"{', '.join(f'{each:,.0f}' for each in found)} bytes of memory", "300 bytes")
+
+
+def main():
+    words = sys.argv[1:]
+    table = print_kinds
+    if not words:
+        sys.exit(__doc__)
+    if words[0] == "goals":
+        table, words = print_goals, words[1:]
+    rounds = int(words[1]) if len(words) > 1 else 3
+    table(words[0], rounds, words[2] if len(words) > 2 else "")
 
 
 if __name__ == "__main__":
