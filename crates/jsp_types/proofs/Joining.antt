@@ -55,7 +55,7 @@ pub depth_above-line_above : (classes : List Class) (o : Option (List ℕ)) → 
 depth_above-line_above classes None = refl
 depth_above-line_above classes (Some p) = refl
 
-line_is_short : (classes : List Class) (c : Class) → is_past_limits classes c ≡ false → length (line_above classes c) ≤ 15
+pub line_is_short : (classes : List Class) (c : Class) → is_past_limits classes c ≡ false → length (line_above classes c) ≤ 15
 line_is_short classes c limits =
     let parts = or_parts (list_any (λ f. has_name c.fields f.0) (inherited classes c) || nat_lt 15 (depth_above classes c)) _ limits in
     let shallow = (or_parts (list_any (λ f. has_name c.fields f.0) (inherited classes c)) _ parts.0).1 in
@@ -70,7 +70,7 @@ fields_are_few classes c limits =
 
 -- ---- the line and the fields of the class that joins
 
-line_of-new : (classes : List Class) (c : Class) → HasParents classes → class_named classes c.name ≡ None → option_map_or (is_declared classes) c.parent true ≡ true → length (line_above classes c) ≤ 15 → line_of (classes ++ c ∷ []) c.name ≡ c.name ∷ line_above classes c
+pub line_of-new : (classes : List Class) (c : Class) → HasParents classes → class_named classes c.name ≡ None → option_map_or (is_declared classes) c.parent true ≡ true → length (line_above classes c) ≤ 15 → line_of (classes ++ c ∷ []) c.name ≡ c.name ∷ line_above classes c
 line_of-new classes c closed new there short =
     let Goal : Option (List ℕ) → Type 0 =
     λ o. option_map_or (is_declared classes) o true ≡ true → length (option_map_or (line_of classes) o []) ≤ 15 → option_map_or (line_up_to 15 (classes ++ c ∷ [])) o [] ≡ option_map_or (line_of classes) o [] in
@@ -106,7 +106,7 @@ fields_of-new classes c closed new there short =
 
 -- ---- the kept classes
 
-has_parents : (known : List Known) → AreKept known → HasParents (classes_of known)
+pub has_parents : (known : List Known) → AreKept known → HasParents (classes_of known)
 has_parents known kept name p is_parent =
     let classes : List Class = classes_of known in
     let Goal : Option Known → Type 0 =

@@ -1,8 +1,13 @@
 //! A class added to the declared ones.
-ghost use Rattle.std.specs.Prelude.{◌≡◌, ◌++◌, ◌∷◌, ◌⊎◌, None, Some, IfOk, IfErr, OnOk, OnErr, option_copied, option_map};
+ghost use Rattle.std.specs.Prelude.{◌≡◌, ◌++◌, ◌∷◌, ◌⊎◌, None, Some, IfOk, IfErr, OnOk, OnErr, option_copied, option_map, find, bytes_eq, []};
 ghost use Rattle.jsp_types.specs.Classes.{class_fault, class_of, declared};
+ghost use Rattle.jsp_types.specs.Descendants.{IsNoted, Keeps};
+ghost use Rattle.jsp_types.specs.NameMaps.{looked_up};
+ghost use Rattle.jsp_types.specs.Places.{FindsAll};
 
+use crate::descendants::Descendants;
 use crate::known::Known;
+use crate::places::Places;
 use crate::shared::Shared;
 use crate::{Class, Classes, DeclareError, Items, Kind, NoMemory, Text};
 use std::alloc::Global;
@@ -62,6 +67,31 @@ fn known_of(
     )
 }
 
+/// Keeps a class of a new name as the last, notes its place, and notes its name below each above it.
+/// On `Err` no class more is kept.
+fn keep(
+    alloc: Global,
+    known: &mut Items<Shared>,
+    places: &mut Places,
+    descendants: &mut Descendants,
+    shared: Shared,
+) -> Result<(), NoMemory>
+    requires new { find (λ k. bytes_eq k.class.name shared.class.name) known.old ≡ None }
+    requires found { FindsAll (looked_up places.old.shared) known.old }
+    ensures ok { OnOk result (known.new ≡ known.old ++ shared ∷ []) }
+    ensures err { OnErr result (known.new ≡ known.old) }
+    ensures found { FindsAll (looked_up places.new.shared) known.new }
+    ensures below { OnOk result (IsNoted (looked_up descendants.new.shared) shared.line) }
+    ensures keeps { Keeps (looked_up descendants.old.shared) (looked_up descendants.new.shared) }
+{
+    // What is noted of a class does no harm where the class isn't kept then.
+    let place = known.as_slice().len();
+    places.note(alloc, shared.get().class.name.as_str(), place)?;
+    descendants.note_line(alloc, shared.get().line.as_slice())?;
+    known.push(shared)?;
+    Ok(())
+}
+
 impl Classes {
     /// Adds a class that isn't refused, or none where it is declared alike already. On `Err` nothing is
     /// changed.
@@ -76,7 +106,13 @@ impl Classes {
         let line = line_from(self.alloc, &class.name, self.line_above(&class))?;
         let fields = joined(self.alloc, self.inherited(&class), class.fields.as_slice())?;
         let known = known_of(self.alloc, class, line, fields)?;
-        self.known.push(known)?;
+        keep(
+            self.alloc,
+            &mut self.known,
+            &mut self.places,
+            &mut self.descendants,
+            known,
+        )?;
         Ok(())
     }
 

@@ -1,8 +1,13 @@
 //! The declared classes.
-ghost use Rattle.std.specs.Prelude.{◌≡◌, ◌==◌, if◌then◌else◌, [], length, option_copied, MatchOption, IfOk, IfSome, IsTrue, Some, None, find, bytes_eq};
+ghost use Rattle.std.specs.Prelude.{◌≡◌, ◌==◌, if◌then◌else◌, [], length, option_copied, MatchOption, IfOk, IfSome, IsTrue, Some, None, option_and_then, ◌||◌, ℕ, List, true, bytes_eq};
+ghost use Rattle.std.specs.List.{slice_get, list_any};
 ghost use Rattle.jsp_types.specs.Classes.{class_named, is_declared, is_sub, line_of, declared_fields, is_within_limits};
+ghost use Rattle.jsp_types.specs.NameMaps.{looked_up};
+ghost use Rattle.jsp_types.specs.Places.{if_named, found_at};
 
+use crate::descendants::Descendants;
 use crate::known::Known;
+use crate::places::Places;
 use crate::shared::Shared;
 use crate::{Items, Kind, NoMemory, Text};
 use std::alloc::Global;
@@ -13,18 +18,21 @@ use std::marker::Model;
 pub struct Classes {
     pub(crate) alloc: Global,
     pub(crate) known: Items<Shared>,
+    pub(crate) places: Places,
+    pub(crate) descendants: Descendants,
 }
 
 impl Model for Classes {
     ghost use Rattle.std.specs.Prelude.{List};
     ghost use Rattle.jsp_types.specs.declared.class.Class.{Class};
-    ghost use Rattle.jsp_types.specs.Known.{classes_of, AreKept};
+    ghost use Rattle.jsp_types.specs.Known.{classes_of};
+    ghost use Rattle.jsp_types.specs.Kept.{AreKeptWith};
 
     ghost Value = { List Class };
 
     ghost view = { λ a. classes_of a.known };
 
-    ghost invariant = { λ a. AreKept a.known };
+    ghost invariant = { λ a. AreKeptWith a.known a.places a.descendants };
 }
 
 impl Clone for Classes {
@@ -34,6 +42,8 @@ impl Clone for Classes {
         Ok(Classes {
             alloc: self.alloc,
             known: copy_of(&self.known)?,
+            places: self.places.clone()?,
+            descendants: self.descendants.clone()?,
         })
     }
 }
@@ -45,20 +55,35 @@ fn copy_of(known: &Items<Shared>) -> Result<Items<Shared>, NoMemory>
     known.clone()
 }
 
-/// The first of that name.
-fn find_known<'a>(known: &'a [Shared], name: &str) -> Option<&'a Known>
-    ensures { option_copied result ≡ find (λ k. bytes_eq k.class.name name.now) known.now }
+/// What is kept of the class of that name, by the place that is noted for it.
+fn find_known<'a>(known: &'a [Shared], places: &Places, name: &str) -> Option<&'a Known>
+    ensures { option_copied result ≡ found_at (looked_up places.now.shared) known.now name.now }
 {
-    match find_shared(known, name) {
+    match places.get(name) {
         None => None,
-        Some(shared) => Some(shared.get()),
+        Some(place) => known_at(known, place, name),
     }
 }
 
-fn find_shared<'a>(known: &'a [Shared], name: &str) -> Option<&'a Shared>
-    ensures { option_copied result ≡ find (λ k. bytes_eq k.class.name name.now) known.now }
+/// What stands at the place, where it has the name.
+fn known_at<'a>(known: &'a [Shared], place: usize, name: &str) -> Option<&'a Known>
+    ensures { option_copied result
+        ≡ option_and_then (if_named name.now) (slice_get known.now place) }
 {
-    known.iter().find(|shared| shared.is_of(name))
+    match known.get(place) {
+        None => None,
+        Some(shared) => get_if_named(shared, name),
+    }
+}
+
+/// What is kept, where it is of a class of that name.
+fn get_if_named<'a>(shared: &'a Shared, name: &str) -> Option<&'a Known>
+    ensures { option_copied result ≡ if_named name.now shared.now }
+{
+    if shared.is_of(name) {
+        return Some(shared.get());
+    }
+    None
 }
 
 impl Classes {
@@ -71,6 +96,8 @@ impl Classes {
         Classes {
             alloc,
             known: Items::new(alloc),
+            places: Places::new(),
+            descendants: Descendants::new(),
         }
     }
 
@@ -80,7 +107,7 @@ impl Classes {
             (class_named self.now name.now ≡ None)
             (λ known. IsKeptOf self.now name.now known.now) }
     {
-        find_known(self.known.as_slice(), name)
+        find_known(self.known.as_slice(), &self.places, name)
     }
 
     /// How many classes are declared.
@@ -121,6 +148,16 @@ impl Classes {
             None => None,
             Some(known) => Some(known.line.as_slice()),
         }
+    }
+
+    /// The names of the classes that have this one in their line of descent, itself apart, in the order
+    /// of their declarations. A class whose declaration was refused memory may be named too. Takes no
+    /// memory.
+    pub fn below(&self, name: &str) -> &[Text]
+        ensures { (c : List ℕ) → is_sub self.now c name.now ≡ true
+            → (bytes_eq c name.now || list_any (bytes_eq c) result.now) ≡ true }
+    {
+        self.descendants.get(name)
     }
 
     /// The class's fields, the inherited first, or none where the class isn't declared. Takes no memory.

@@ -1,8 +1,11 @@
 -- What is found among the kept classes is kept of the class of that name.
 use Rattle.std.proofs.Common.{◌∙◌, ap}
-use Rattle.jsp_types.proofs.Finding.{known_named, known_is_kept}
+use Rattle.jsp_types.specs.NameMaps.{looked_up}
+use Rattle.jsp_types.specs.Places.{found_at}
+use Rattle.jsp_types.proofs.Finding.{known_is_kept}
 use Rattle.jsp_types.proofs.classes.Classes.known.Goals as goal
 
 pub returns : goal.returns
 returns c =
-    known_is_kept c.self.inside.known c.args.self.now c.args.name.now c.find_known.result c.self.invariant c.self.view_is (c.find_known.ensures ∙ ap (λ s. known_named s c.args.name.now) c.as_slice.ensures)
+    known_is_kept c.self.inside.known c.args.self.now c.args.name.now c.find_known.result c.self.invariant.kept c.self.view_is
+    (c.find_known.ensures ∙ ap (λ s. found_at (looked_up c.self.inside.places.shared) s c.args.name.now) c.as_slice.ensures ∙ c.self.invariant.found c.args.name.now)
