@@ -7,8 +7,8 @@ pub mod Altering
 pub mod Placed
 pub mod Sweeping
 pub mod Sought
-pub mod Beyond
+pub mod Enough
+pub mod Seeking
 pub mod Gathering
 pub mod Ending
 pub mod Joining
-mod WorkedKeys

@@ -1,25 +1,19 @@
 -- A key that is sought, and the key of a template under which an entry that it matches seeks it.
-use Rattle.std.proofs.Common.{◌≡◌, ℕ, Bool, true, false, not, cond, ◌||◌, List, [], ◌∷◌, ◌++◌, map, Some, refl, ap, sym, ◌∙◌, subst, inl, inr}
+use Rattle.std.proofs.Common.{◌≡◌, ℕ, Bool, true, false, cond, ◌||◌, List, [], ◌∷◌, ◌++◌, map, Some, refl, ap, sym, ◌∙◌, subst, inl, inr}
 use Rattle.std.specs.Prelude.{find, bytes_eq, ◌==◌}
-use Rattle.std.specs.List.{list_any, list_all}
+use Rattle.std.specs.List.{list_any}
 use Rattle.std.specs.Option.{option_map_or}
 use Rattle.std.proofs.lemmas.Bool.{eq-eqb}
 use Rattle.std.proofs.lemmas.Bool.Decides.{Decides-int_eq}
 use Rattle.std.proofs.lemmas.Slice.Eq.{bytes_eq-Decides}
 use Rattle.jsp_types.specs.declared.value.Value.{Value}
 use Rattle.jsp_types.specs.declared.value.Value.TheVariants as value
-use Rattle.jsp_types.specs.declared.class.Class.{Class}
-use Rattle.jsp_types.specs.declared.entry.Entry.{Entry}
-use Rattle.jsp_types.specs.declared.entry.Template.{Template}
-use Rattle.jsp_types.specs.declared.entry.Template.TheVariants.{Any, Like}
-use Rattle.jsp_types.specs.Classes.{is_sub, line_of}
-use Rattle.jsp_types.specs.Matching.{is_null, value_eq, value_at, matches}
+use Rattle.jsp_types.specs.Matching.{is_null, value_eq, value_at}
 use Rattle.jsp_table.specs.Numbers.{contains}
 use Rattle.jsp_table.proofs.Rising.{or_cases}
-use Rattle.jsp_keyed.specs.Keys.{any_key, class_key, field_key}
+use Rattle.jsp_keys.specs.Keys.{class_key, field_key}
 use Rattle.jsp_keyed.specs.Finding.{is_sought}
-use Rattle.jsp_keyed.specs.Templates.{first_value, template_key, line_keys, value_keys, entry_keys}
-use Rattle.jsp_keyed.proofs.Walking.{and_both, eqb_eq}
+use Rattle.jsp_keyed.proofs.Walking.{eqb_eq}
 
 -- ---- lists of keys
 
@@ -74,7 +68,7 @@ same_value (value.Bool false) (value.Bool true) h = absurd (cc)
 same_value (value.Bool false) (value.Bool false) h = refl
 
 -- the value of a name that isn't null stands in a field of that name
-value_stands : (seed space : ℕ) (fields : List (List ℕ × Value)) (name : List ℕ) → is_null (value_at fields name) ≡ false
+pub value_stands : (seed space : ℕ) (fields : List (List ℕ × Value)) (name : List ℕ) → is_null (value_at fields name) ≡ false
     → contains (map (λ f. field_key seed space f.0 f.1) fields) (field_key seed space name (value_at fields name)) ≡ true
 value_stands seed space [] name some = absurd (cc)
 value_stands seed space (f ∷ fields) name some = at (bytes_eq f.0 name) refl (value_stands seed space fields name) where
@@ -104,53 +98,10 @@ pub has_right : (a b : List ℕ) (k : ℕ) → contains b k ≡ true → contain
 has_right [] b k h = h
 has_right (m ∷ a) b k h = or_second (m == k) (contains (a ++ b) k) (has_right a b k h)
 
--- the first value of a template, which the entry has, or what stands for none
-first_stands : (seed space : ℕ) (e : Entry) (none : ℕ) (keys : List ℕ)
-    → contains keys none ≡ true
-    → ((k : ℕ) → contains (value_keys seed space e.fields) k ≡ true → contains keys k ≡ true)
-    → (fields : List (List ℕ × Value)) → list_all (λ f. is_null f.1 || value_eq f.1 (value_at e.fields f.0)) fields ≡ true
-    → contains keys (option_map_or (λ f. field_key seed space f.0 f.1) (first_value fields) none) ≡ true
-first_stands seed space e none keys there values [] h = there
-first_stands seed space e none keys there values (f ∷ fields) h =
-    let two = and_both (is_null f.1 || value_eq f.1 (value_at e.fields f.0)) (list_all (λ f. is_null f.1 || value_eq f.1 (value_at e.fields f.0)) fields) h in
-    at (is_null f.1) refl two.0 (first_stands seed space e none keys there values fields two.1) where
-      at : (b : Bool) → is_null f.1 ≡ b → (b || value_eq f.1 (value_at e.fields f.0)) ≡ true → contains keys (option_map_or (λ g. field_key seed space g.0 g.1) (first_value fields) none) ≡ true
-          → contains keys (option_map_or (λ g. field_key seed space g.0 g.1) (cond (not b) (Some f) (first_value fields)) none) ≡ true
-      at true n q rest = rest
-      at false n q rest =
-          let same : f.1 ≡ value_at e.fields f.0 = same_value f.1 (value_at e.fields f.0) q in
-          values (field_key seed space f.0 f.1) (subst (λ v. contains (value_keys seed space e.fields) (field_key seed space f.0 v) ≡ true) (sym same) (value_stands seed space e.fields f.0 (ap is_null (sym same) ∙ n)))
-
 -- a class above another
-line_stands : (seed space : ℕ) (line : List (List ℕ)) (class : List ℕ) → list_any (bytes_eq class) line ≡ true → contains (map (class_key seed space) line) (class_key seed space class) ≡ true
+pub line_stands : (seed space : ℕ) (line : List (List ℕ)) (class : List ℕ) → list_any (bytes_eq class) line ≡ true → contains (map (class_key seed space) line) (class_key seed space class) ≡ true
 line_stands seed space [] class h = absurd (cc)
 line_stands seed space (name ∷ line) class h = elim (or_cases (bytes_eq class name) (list_any (bytes_eq class) line) h) [
   | inl e ↦ has_first (map (class_key seed space) line) (class_key seed space class) (class_key seed space name) (ap (class_key seed space) (sym ((bytes_eq-Decides class name).0 e)))
   | inr e ↦ has_later (map (class_key seed space) line) (class_key seed space class) (class_key seed space name) (line_stands seed space line class e)
 ]
-
-pub template_stands : (seed space : ℕ) (classes : List Class) (e : Entry) (t : Template) → matches classes t e ≡ true
-    → contains (entry_keys seed classes space e) (template_key seed space t) ≡ true
-template_stands seed space classes e Any h = has_first (value_keys seed space e.fields ++ line_keys seed classes space e.class) (any_key seed space) (any_key seed space) refl
-template_stands seed space classes e (Like t) h =
-    let two = and_both (is_sub classes e.class t.class) (list_all (λ f. is_null f.1 || value_eq f.1 (value_at e.fields f.0)) t.fields) h in
-    let values = value_keys seed space e.fields in
-    let line = line_keys seed classes space e.class in
-    let class = class_key seed space t.class in
-    first_stands seed space e class (entry_keys seed classes space e)
-    (has_later (values ++ line) class (any_key seed space) (has_right values line class (line_stands seed space (line_of classes e.class) t.class two.0)))
-    (λ k there. has_later (values ++ line) k (any_key seed space) (has_left values line k there))
-    t.fields two.1
-
-pub among_templates : (seed space : ℕ) (classes : List Class) (e : Entry) (ts : List Template) → list_any (λ t. matches classes t e) ts ≡ true
-    → is_sought (entry_keys seed classes space e) (map (template_key seed space) ts) ≡ true
-among_templates seed space classes e [] h = absurd (cc)
-among_templates seed space classes e (t ∷ ts) h = elim (or_cases (matches classes t e) (list_any (λ t. matches classes t e) ts) h) [
-  | inl f ↦ sought_too sought keys (template_key seed space t) (template_stands seed space classes e t f) (has_first (map (template_key seed space) ts) (template_key seed space t) (template_key seed space t) refl)
-  | inr f ↦ more_keys sought (template_key seed space t) (map (template_key seed space) ts) (among_templates seed space classes e ts f)
-] where
-  sought : List ℕ
-  sought = entry_keys seed classes space e
-
-  keys : List ℕ
-  keys = template_key seed space t ∷ map (template_key seed space) ts

@@ -1,5 +1,4 @@
-pub mod Keys
-pub mod Templates
+pub mod Several
 pub mod Finding
 pub mod Kept
 pub mod Changing

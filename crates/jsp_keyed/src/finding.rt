@@ -38,7 +38,7 @@ fn first_under<'a, T, K: Numbering<T>, P: Test<T>>(
 
 /// The first thing above a number that is named under one of the keys that are sought and passes the
 /// test.
-fn first_under_any<'a, T, K: Numbering<T>, P: Test<T> + Keys>(
+pub(crate) fn first_under_any<'a, T, K: Numbering<T>, P: Test<T> + Keys>(
     table: &'a Table<T, K>,
     hints: &Hints,
     seed: u64,

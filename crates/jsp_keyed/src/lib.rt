@@ -20,13 +20,13 @@ mod ends;
 mod finding;
 mod keyed;
 mod keying;
-mod keys;
 mod listing;
-mod mixing;
+mod lists;
+mod matching;
 mod naming;
 mod passing;
+mod several;
 mod slots;
-mod templates;
 mod under;
 
 pub use adding::item;
@@ -34,8 +34,4 @@ pub use finding::lesser;
 pub use jsp_types::NoMemory;
 pub use keyed::Keyed;
 pub use keying::{Key, Keying, Keys};
-pub use keys::{
-    key_of_class, key_of_field, key_of_number, key_of_session, key_of_space, key_of_transaction,
-};
 pub use slots::sooner;
-pub use templates::{count_entry_keys, entry_key, key_of_template};

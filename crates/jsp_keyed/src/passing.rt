@@ -1,12 +1,10 @@
 //! Numbers, among which are those of all things that pass a test. Each thing that is named under a key
 //! that is sought is tested once, where one search after another would test some again and again.
-ghost use Rattle.std.specs.Prelude.{◌≡◌, ◌<◌, ◌&&◌, ℕ, true, IfOk, OnOk};
+ghost use Rattle.std.specs.Prelude.{◌≡◌, ◌<◌, ◌&&◌, ℕ, true, OnOk};
 ghost use Rattle.std.specs.List.{AllByRecursion, list_any};
 ghost use Rattle.jsp_table.specs.Numbers.{contains, names};
-ghost use Rattle.jsp_table.specs.Finding.{AreNamed};
-ghost use Rattle.jsp_keyed.specs.Finding.{is_sought};
 
-use crate::{Keyed, Keying, Keys, NoMemory};
+use crate::{Keys, NoMemory};
 use jsp_table::{Hints, Numbering, Numbers, Table, Test};
 
 /// Adds the numbers of the things that are named and pass the test.
@@ -48,7 +46,7 @@ fn gather_under<T, K: Numbering<T>, P: Test<T>>(
 
 /// Adds the numbers of the things that are named under one of the keys that are sought and pass the
 /// test.
-fn gather_sought<T, K: Numbering<T>, P: Test<T> + Keys>(
+pub(crate) fn gather_sought<T, K: Numbering<T>, P: Test<T> + Keys>(
     table: &Table<T, K>,
     hints: &Hints,
     seed: u64,
@@ -56,29 +54,12 @@ fn gather_sought<T, K: Numbering<T>, P: Test<T> + Keys>(
     found: &mut Numbers,
 ) -> Result<(), NoMemory>
     requires { AllByRecursion (λ x. 0 < K.number_of x) table.now }
-    ensures { OnOk result (AllByRecursion (λ x. P.is_passed test.now x ≡ true → list_any (λ k. names hints.now k (K.number_of x)) (P.sought test.now seed) ≡ true → contains found.new (K.number_of x) ≡ true) table.now) }
+    ensures ok { OnOk result (AllByRecursion (λ x. P.is_passed test.now x ≡ true → list_any (λ k. names hints.now k (K.number_of x)) (P.sought test.now seed) ≡ true → contains found.new (K.number_of x) ≡ true) table.now) }
+    ensures keeps { (m : ℕ) → contains found.old m ≡ true → contains found.new m ≡ true }
 {
     'places: for place in 0..test.sought_count(seed) {
         let key = test.sought_key(seed, place);
         gather_under(table, hints, key, test, found)?;
     }
     Ok(())
-}
-
-impl<T, K: Numbering<T> + Keying<T>> Keyed<T, K> {
-    /// Numbers, among which are those of all things that pass the test, which only things pass that have
-    /// one of the keys that are sought.
-    pub fn passing<P: Test<T> + Keys>(&self, test: &P) -> Result<Numbers, NoMemory>
-        requires { (seed : ℕ) (x : T) → P.is_passed test.now x ≡ true → is_sought (P.sought test.now seed) (K.keys_of seed x) ≡ true }
-        ensures named { IfOk result (λ numbers. AreNamed K.number_of (P.is_passed test.now) numbers self.now) }
-        ensures positive { AllByRecursion (λ x. 0 < K.number_of x) self.now }
-    {
-        let mut found = Numbers::new(self.alloc);
-        // Where there is nothing, no key is made.
-        if self.table.places().is_empty() {
-            return Ok(found);
-        }
-        gather_sought(&self.table, &self.hints, self.seed, test, &mut found)?;
-        Ok(found)
-    }
 }

@@ -1,21 +1,21 @@
 //! What is asked of registrations, and under which keys they are found.
-ghost use Rattle.std.specs.Prelude.{◌==◌, ◌&&◌, [], ◌∷◌, ◌≡◌, None, not, length};
+ghost use Rattle.std.specs.Prelude.{ℕ, List, ◌==◌, ◌&&◌, [], ◌∷◌, ◌≡◌, None, not, length};
 ghost use Rattle.std.specs.List.{list_any};
+ghost use Rattle.jsp_types.specs.declared.class.Class.{Class};
+ghost use Rattle.jsp_types.specs.declared.entry.Entry.{Entry as OfEntry};
 ghost use Rattle.jsp_model.specs.Lookup.{is_caller as calls};
-ghost use Rattle.jsp_keyed.specs.Keys.{session_key, transaction_key, space_key};
-ghost use Rattle.jsp_keyed.specs.Templates.{entry_keys};
+ghost use Rattle.jsp_keys.specs.Keys.{session_key, transaction_key, space_key};
 ghost use Rattle.jsp_notify.specs.News.{hearing, untold};
 ghost use Rattle.jsp_notify.specs.Owing.{is_news as has_news};
 
 use crate::news::News;
 use crate::owing::is_news;
-use jsp_keyed::{
-    Keys, count_entry_keys, entry_key, key_of_session, key_of_space, key_of_transaction,
-};
+use jsp_keyed::Keys;
+use jsp_keys::{ByEntry, key_of_session, key_of_space, key_of_transaction};
 use jsp_model::{Registration, Row};
 use jsp_sight::is_caller;
 use jsp_table::Test;
-use jsp_types::Classes;
+use jsp_types::{Classes, Entry};
 
 /// Whether it is a session's.
 #[derive(Drop)]
@@ -165,14 +165,22 @@ impl<'a> Test<Registration> for Hears<'a> {
     }
 }
 
-impl<'a> Keys for Hears<'a> {
-    ghost sought = { λ t seed. entry_keys seed t.classes.now t.row.now.space t.row.now.entry };
+impl<'a> ByEntry for Hears<'a> {
+    ghost classes_of = { λ t. t.classes.now };
 
-    fn sought_count(&self, _seed: u64) -> usize {
-        count_entry_keys(self.classes, &self.row.entry)
+    ghost space_of = { λ t. t.row.now.space };
+
+    ghost entry_of = { λ t. t.row.now.entry };
+
+    fn classes(&self) -> &Classes {
+        self.classes
     }
 
-    fn sought_key(&self, seed: u64, place: usize) -> u64 {
-        entry_key(seed, self.classes, self.row.space, &self.row.entry, place)
+    fn space(&self) -> u64 {
+        self.row.space
+    }
+
+    fn entry(&self) -> &Entry {
+        &self.row.entry
     }
 }

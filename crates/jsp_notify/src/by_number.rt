@@ -5,13 +5,16 @@ ghost use Rattle.jsp_lease.specs.declared.item.Rank.TheVariants.{Registration as
 ghost use Rattle.jsp_notify.specs.Sought.{caller_key, registration_keys};
 
 use crate::scanned::copy_of;
-use jsp_keyed::{Keyed, Keying, key_of_session, key_of_space, key_of_template, key_of_transaction};
+use jsp_keyed::{Keyed, Keying};
+use jsp_keys::{
+    count_template_keys, key_of_session, key_of_space, key_of_transaction, template_key,
+};
 use jsp_model::{Rank, Registration};
 use jsp_table::Numbering;
 use jsp_types::NoMemory;
 
 /// Registrations go by their numbers. Each is named under its session, its transaction, its space, and
-/// the first value that its template asks for.
+/// the keys of its template.
 #[derive(Drop)]
 pub(crate) struct ByNumber {}
 
@@ -33,8 +36,8 @@ impl Keying<Registration> for ByNumber {
 
     ghost rank_of = { OfRank };
 
-    fn count(_seed: u64, _registration: &Registration) -> usize {
-        4
+    fn count(_seed: u64, registration: &Registration) -> usize {
+        3 + count_template_keys(&registration.template)
     }
 
     fn key(seed: u64, registration: &Registration, place: usize) -> u64 {
@@ -61,8 +64,7 @@ fn key_at(seed: u64, registration: &Registration, place: usize) -> u64
         0 => key_of_session(seed, registration.session),
         1 => key_of_caller(seed, registration),
         2 => key_of_space(seed, registration.space),
-        3 => key_of_template(seed, registration.space, &registration.template),
-        _ => 0,
+        _ => template_key(seed, registration.space, &registration.template, place - 3),
     }
 }
 

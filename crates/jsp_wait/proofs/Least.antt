@@ -7,7 +7,6 @@ use Rattle.jsp_model.specs.declared.state.Row.{Row}
 use Rattle.std.specs.Prelude.{find, slice_index, ◌==◌}
 use Rattle.std.specs.List.{list_any}
 use Rattle.jsp_model.specs.declared.state.Blocked.{Blocked}
-use Rattle.jsp_model.specs.Sight.{is_if}
 use Rattle.jsp_table.specs.Finding.{AreNumbered}
 use Rattle.jsp_table.proofs.Rising.{or_cases}
 use Rattle.jsp_keyed.specs.Finding.{IsLeast}
@@ -103,22 +102,22 @@ module _ (taker : ℕ → Blocked → Bool) (space : ℕ) where
 
   module _ (freed : Blocked → Bool) where
     abbrev pub freed_at : Blocked → Bool
-    freed_at b = b.space == space && (is_if b.form && freed b)
+    freed_at b = b.space == space && freed b
 
     pub taker_part : (ns : List ℕ) (xs : List Blocked) → AreNumbered number xs → IsLeast number (waits_no_more taker freed space ns) (λ b. list_any (λ n. taker n b) ns) xs (find (takes_one taker space ns) xs)
     taker_part ns xs up =
         found_least number (waits_no_more taker freed space ns) (takes_one taker space ns) (λ b. list_any (λ n. taker n b) ns) xs up
-        (λ b h. let two = and_both (b.space == space) (list_any (λ n. taker n b) ns) h in and_true (b.space == space) (list_any (λ n. taker n b) ns || (is_if b.form && freed b)) two.0 (or_first (list_any (λ n. taker n b) ns) (is_if b.form && freed b) two.1))
-        (λ b h k. and_true (b.space == space) (list_any (λ n. taker n b) ns) (and_both (b.space == space) (list_any (λ n. taker n b) ns || (is_if b.form && freed b)) h).0 k)
+        (λ b h. let two = and_both (b.space == space) (list_any (λ n. taker n b) ns) h in and_true (b.space == space) (list_any (λ n. taker n b) ns || freed b) two.0 (or_first (list_any (λ n. taker n b) ns) (freed b) two.1))
+        (λ b h k. and_true (b.space == space) (list_any (λ n. taker n b) ns) (and_both (b.space == space) (list_any (λ n. taker n b) ns || freed b) h).0 k)
 
-    pub freed_part : (ns : List ℕ) (xs : List Blocked) → AreNumbered number xs → IsLeast number (waits_no_more taker freed space ns) (λ b. is_if b.form && freed b) xs (find freed_at xs)
+    pub freed_part : (ns : List ℕ) (xs : List Blocked) → AreNumbered number xs → IsLeast number (waits_no_more taker freed space ns) freed xs (find freed_at xs)
     freed_part ns xs up =
-        found_least number (waits_no_more taker freed space ns) freed_at (λ b. is_if b.form && freed b) xs up
-        (λ b h. let two = and_both (b.space == space) (is_if b.form && freed b) h in and_true (b.space == space) (list_any (λ n. taker n b) ns || (is_if b.form && freed b)) two.0 (or_second (list_any (λ n. taker n b) ns) (is_if b.form && freed b) two.1))
-        (λ b h k. and_true (b.space == space) (is_if b.form && freed b) (and_both (b.space == space) (list_any (λ n. taker n b) ns || (is_if b.form && freed b)) h).0 k)
+        found_least number (waits_no_more taker freed space ns) freed_at freed xs up
+        (λ b h. let two = and_both (b.space == space) (freed b) h in and_true (b.space == space) (list_any (λ n. taker n b) ns || freed b) two.0 (or_second (list_any (λ n. taker n b) ns) (freed b) two.1))
+        (λ b h k. and_true (b.space == space) (freed b) (and_both (b.space == space) (list_any (λ n. taker n b) ns || freed b) h).0 k)
 
-    pub either_part : (ns : List ℕ) (b : Blocked) → (list_any (λ n. taker n b) ns || (is_if b.form && freed b)) ≡ true → (list_any (λ n. taker n b) ns ≡ true) ⊎ ((is_if b.form && freed b) ≡ true)
-    either_part ns b h = or_cases (list_any (λ n. taker n b) ns) (is_if b.form && freed b) h
+    pub either_part : (ns : List ℕ) (b : Blocked) → (list_any (λ n. taker n b) ns || freed b) ≡ true → (list_any (λ n. taker n b) ns ≡ true) ⊎ (freed b ≡ true)
+    either_part ns b h = or_cases (list_any (λ n. taker n b) ns) (freed b) h
 
-    pub all_stirred : (ns : List ℕ) (b : Blocked) → waits_no_more taker freed space ns b ≡ true → (list_any (λ n. taker n b) ns || (is_if b.form && freed b)) ≡ true
-    all_stirred ns b h = (and_both (b.space == space) (list_any (λ n. taker n b) ns || (is_if b.form && freed b)) h).1
+    pub all_stirred : (ns : List ℕ) (b : Blocked) → waits_no_more taker freed space ns b ≡ true → (list_any (λ n. taker n b) ns || freed b) ≡ true
+    all_stirred ns b h = (and_both (b.space == space) (list_any (λ n. taker n b) ns || freed b) h).1

@@ -1,5 +1,5 @@
 -- Each session's map has its requests, where one comes and where one goes.
-use Rattle.std.proofs.Common.{◌≡◌, ℕ, suc, ◌<◌, Bool, true, false, true≢false, not, ◌||◌, ◌&&◌, cond, eqb, List, [], ◌∷◌, ◌++◌, length, map, Option, Some, refl, ap, sym, ◌∙◌, arith, inl, inr}
+use Rattle.std.proofs.Common.{◌≡◌, ℕ, ◌<◌, Bool, true, false, true≢false, not, ◌||◌, ◌&&◌, cond, eqb, List, [], ◌∷◌, ◌++◌, length, map, Option, Some, refl, ap, sym, ◌∙◌, arith, inl, inr}
 use Rattle.std.specs.Prelude.{filter, find, slice_get, nat_eq, ◌==◌, if◌then◌else◌}
 use Rattle.std.specs.HashMap.{HashMap}
 use Rattle.std.specs.List.{AllByRecursion, list_any}

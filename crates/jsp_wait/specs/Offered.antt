@@ -20,6 +20,19 @@ AskForIt classes row_of is_taker = (n : ℕ) (b : Blocked) → is_taker n b ≡ 
 abbrev pub takes_one : (ℕ → Blocked → Bool) → ℕ → List ℕ → Blocked → Bool
 takes_one is_taker space numbers b = b.space == space && list_any (λ n. is_taker n b) numbers
 
--- it is at the space, and may be given one of the rows, or waited for a conflict that is gone
+-- it waits for a conflict to end, has this number, and isn't held up
+abbrev pub freed_numbered : (Blocked → Bool) → ℕ → Blocked → Bool
+freed_numbered is_freed n b = n == b.number && (is_if b.form && is_freed b)
+
+-- it waits for a conflict to end and isn't held up, and its number is one of these, where some are given
+abbrev pub freed_among : (Blocked → Bool) → Option (List ℕ) → Blocked → Bool
+freed_among is_freed None b = is_if b.form && is_freed b
+freed_among is_freed (Some ns) b = list_any (λ n. freed_numbered is_freed n b) ns
+
+-- it is at the space, and may be given one of the rows, or passes a test
 abbrev pub waits_no_more : (ℕ → Blocked → Bool) → (Blocked → Bool) → ℕ → List ℕ → Blocked → Bool
-waits_no_more is_taker is_freed space numbers b = b.space == space && (list_any (λ n. is_taker n b) numbers || (is_if b.form && is_freed b))
+waits_no_more is_taker freed space numbers b = b.space == space && (list_any (λ n. is_taker n b) numbers || freed b)
+
+-- it waits for a conflict to end, and asks for the row
+abbrev pub waits_for : List Class → Row → Blocked → Bool
+waits_for classes row b = is_if b.form && wanted classes b row

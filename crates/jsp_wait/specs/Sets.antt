@@ -4,7 +4,7 @@ use Rattle.std.specs.Option.{option_map_or}
 use Rattle.jsp_lease.specs.declared.item.Item.{Item}
 use Rattle.jsp_lease.specs.declared.item.Rank.TheVariants as rank
 use Rattle.jsp_model.specs.declared.state.MatchSet.{MatchSet}
-use Rattle.jsp_keyed.specs.Keys.{space_key, session_key, transaction_key}
+use Rattle.jsp_keys.specs.Keys.{space_key, session_key, transaction_key}
 
 abbrev pub set_end : MatchSet → Item
 set_end x = record { end = x.end; rank = rank.MatchSet; number = x.number }

@@ -2,12 +2,13 @@
 ghost use Rattle.std.specs.Prelude.{◌==◌, ◌&&◌, [], ◌∷◌, map, is_some};
 ghost use Rattle.std.specs.List.{list_any};
 ghost use Rattle.jsp_model.specs.Lookup.{is_caller as calls};
-ghost use Rattle.jsp_keyed.specs.Keys.{transaction_key};
+ghost use Rattle.jsp_keys.specs.Keys.{transaction_key};
 ghost use Rattle.jsp_wait.specs.Sought.{under_key};
 
 use crate::by_number::key_of_under;
 use crate::scanned::is_under;
-use jsp_keyed::{Keys, key_of_transaction};
+use jsp_keyed::Keys;
+use jsp_keys::key_of_transaction;
 use jsp_model::Blocked;
 use jsp_sight::is_caller;
 use jsp_table::Test;

@@ -14,6 +14,7 @@
 mod asking;
 mod by_number;
 mod found;
+mod freeing;
 mod keyed;
 mod match_sets;
 mod offer;

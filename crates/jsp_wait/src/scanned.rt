@@ -1,17 +1,21 @@
 //! The requests that wait, in a plain list, which each call goes through.
-ghost use Rattle.std.specs.Prelude.{◌≡◌, ◌==◌, ◌&&◌, not, nat_le, map, filter, find, fold, reverse, is_some, option_copied, length, None, IfOk};
-ghost use Rattle.std.specs.List.{list_any};
+ghost use Rattle.std.specs.Prelude.{◌≡◌, ◌==◌, ◌&&◌, not, nat_le, map, filter, find, fold, reverse, is_some, option_copied, length, ◌||◌, None, IfOk, IsTrue};
+ghost use Rattle.std.specs.List.{list_any, list_all};
 ghost use Rattle.jsp_lease.specs.Due.{first_item, over_by};
 ghost use Rattle.jsp_model.specs.Lookup.{is_caller as calls};
 ghost use Rattle.jsp_sight.specs.Rows.{earlier as earlier_of};
+ghost use Rattle.jsp_model.specs.Lookup.{contains as has};
+ghost use Rattle.jsp_model.specs.Sight.{is_if as waits_for_conflict};
+ghost use Rattle.jsp_wait.specs.Offered.{freed_numbered, waits_for};
 ghost use Rattle.jsp_wait.specs.Waiting.{blocked_end, asker, askers_under, askers_at};
 
 use crate::offer::Offer;
+use crate::taking::frees_numbered;
 use crate::waiters::Asker;
-use jsp_model::{Blocked, Item, Rank};
-use jsp_sight::{earlier, is_caller};
+use jsp_model::{Blocked, Item, Rank, Row};
+use jsp_sight::{earlier, is_caller, is_if, wants};
 use jsp_table::Test;
-use jsp_types::{Items, NoMemory};
+use jsp_types::{Classes, Items, NoMemory};
 use std::alloc::Global;
 
 pub(crate) fn plain_copy(alloc: Global, requests: &[Blocked]) -> Result<Items<Blocked>, NoMemory>
@@ -73,6 +77,44 @@ pub(crate) fn any_takes<O: Offer>(requests: &[Blocked], number: u64, offer: &O) 
     ensures { result ≡ list_any (λ b. O.is_taker offer.now number b) requests.now }
 {
     requests.iter().any(|b| offer.takes(number, b))
+}
+
+pub(crate) fn any_freed<O: Offer>(requests: &[Blocked], number: u64, offer: &O) -> bool
+    ensures { result ≡ list_any (freed_numbered (O.is_freed offer.now) number) requests.now }
+{
+    requests.iter().any(|b| frees_numbered(offer, number, b))
+}
+
+pub(crate) fn any_waits_for_conflict(requests: &[Blocked]) -> bool
+    ensures { result ≡ list_any (λ b. waits_for_conflict b.form) requests.now }
+{
+    requests.iter().any(|b| is_if(b.form))
+}
+
+/// The numbers of the requests that wait for a conflict to end and ask for a row.
+pub(crate) fn numbers_waiting_for(
+    alloc: Global,
+    requests: &[Blocked],
+    classes: &Classes,
+    row: &Row,
+) -> Result<Vec<u64>, NoMemory>
+    ensures { IfOk result (λ v. IsTrue (list_all (λ b. not (waits_for classes.now row.now b) || has v.items b.number) requests.now)) }
+{
+    list_waiting_for(alloc, requests, classes, row)
+}
+
+fn list_waiting_for(
+    alloc: Global,
+    requests: &[Blocked],
+    classes: &Classes,
+    row: &Row,
+) -> Result<Vec<u64>, NoMemory>
+    ensures { IfOk result (λ v. v.items ≡ map (λ b. b.number) (filter (waits_for classes.now row.now) requests.now)) }
+{
+    let waiting = requests
+        .iter()
+        .filter(|b| is_if(b.form) && wants(classes, b, row));
+    waiting.map(|b| b.number).collect(alloc)
 }
 
 pub(crate) fn any_asked(requests: &[Blocked], session: u64, id: u64) -> bool

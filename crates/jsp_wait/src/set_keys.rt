@@ -3,10 +3,11 @@ ghost use Rattle.std.specs.Prelude.{◌≡◌, slice_index, IfOk};
 ghost use Rattle.std.specs.Option.{option_map_or};
 ghost use Rattle.jsp_model.specs.declared.state.MatchSet.{MatchSet as OfMatchSet};
 ghost use Rattle.jsp_lease.specs.declared.item.Rank.TheVariants.{MatchSet as OfRank};
-ghost use Rattle.jsp_keyed.specs.Keys.{session_key, transaction_key};
+ghost use Rattle.jsp_keys.specs.Keys.{session_key, transaction_key};
 ghost use Rattle.jsp_wait.specs.Sets.{set_keys};
 
-use jsp_keyed::{Keying, key_of_session, key_of_space, key_of_transaction};
+use jsp_keyed::Keying;
+use jsp_keys::{key_of_session, key_of_space, key_of_transaction};
 use jsp_model::{MatchSet, Rank};
 use jsp_table::Numbering;
 use jsp_types::NoMemory;

@@ -1,9 +1,10 @@
 //! What is asked of match sets, and under which key they are sought.
 ghost use Rattle.std.specs.Prelude.{◌==◌, [], ◌∷◌};
 ghost use Rattle.jsp_model.specs.Lookup.{is_caller as calls};
-ghost use Rattle.jsp_keyed.specs.Keys.{space_key, session_key, transaction_key};
+ghost use Rattle.jsp_keys.specs.Keys.{space_key, session_key, transaction_key};
 
-use jsp_keyed::{Keys, key_of_session, key_of_space, key_of_transaction};
+use jsp_keyed::Keys;
+use jsp_keys::{key_of_session, key_of_space, key_of_transaction};
 use jsp_list::Reading;
 use jsp_model::MatchSet;
 use jsp_sight::is_caller;

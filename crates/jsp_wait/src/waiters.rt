@@ -1,25 +1,28 @@
 //! The requests that wait. Contracts see them as a list, in the order in which they came.
-ghost use Rattle.std.specs.Prelude.{◌≡◌, ◌==◌, ◌&&◌, ◌++◌, ◌∷◌, [], not, map, filter, find, length, is_some, option_copied, nat_le, IfOk, OnOk, OnErr};
+ghost use Rattle.std.specs.Prelude.{◌≡◌, ◌==◌, ◌&&◌, ◌++◌, ◌∷◌, [], not, map, filter, find, length, is_some, option_copied, nat_le, ◌||◌, IfOk, IsTrue, OnOk, OnErr};
 ghost use Rattle.std.specs.Bool.{OnTrue};
-ghost use Rattle.std.specs.List.{list_any};
+ghost use Rattle.std.specs.List.{list_any, list_all};
 ghost use Rattle.jsp_lease.specs.Due.{first_item, over_by};
 ghost use Rattle.jsp_model.specs.Lookup.{is_caller as calls};
 ghost use Rattle.jsp_wait.specs.Waiting.{blocked_end, askers_under, askers_at};
-ghost use Rattle.jsp_wait.specs.Offered.{AskForIt, takes_one, waits_no_more};
+ghost use Rattle.jsp_model.specs.Lookup.{contains as has};
+ghost use Rattle.jsp_model.specs.Sight.{is_if as waits_for_conflict};
+ghost use Rattle.jsp_wait.specs.Offered.{AskForIt, takes_one, freed_numbered, freed_among, waits_for, waits_no_more};
 
 use crate::asking::{At, Under, UnderAny, UnderIt};
 use crate::found::Found;
+use crate::freeing::{are_all_patient, is_freed, waiting_for};
 use crate::keyed::{askers, copies_of, count_waiting_at, first_at_places, space_of};
 use crate::offer::Offer;
 use crate::scanned::{
-    any_asked, any_takes, asked_at, asked_under, count_asked, count_waiting, drop_at,
-    drop_numbered, drop_of, drop_under, first_numbered, first_over, first_passing, plain_copy,
-    spaces_numbered,
+    any_asked, any_freed, any_takes, any_waits_for_conflict, asked_at, asked_under, count_asked,
+    count_waiting, drop_at, drop_numbered, drop_of, drop_under, first_numbered, first_over,
+    first_passing, numbers_waiting_for, plain_copy, spaces_numbered,
 };
 use crate::taking::{Stirred, TakesOne, first_stirred, first_taker, is_wanted};
-use jsp_model::{Blocked, Item};
+use jsp_model::{Blocked, Item, Row};
 use jsp_table::Test;
-use jsp_types::{Items, NoMemory};
+use jsp_types::{Classes, Items, NoMemory};
 use std::alloc::Global;
 use std::marker::Model;
 
@@ -230,15 +233,16 @@ impl Waiters {
     }
 
     /// The first request at a space that waits no more: it may be given one of the rows of these numbers,
-    /// or waited for a conflict that is gone.
+    /// or waited for a conflict that is gone and is one of some requests or, where none are given, any.
     pub fn first_stirred<O: Offer>(
         &self,
         space: u64,
         numbers: &[u64],
+        among: Option<&[u64]>,
         offer: &O,
     ) -> Option<&Blocked>
         requires { AskForIt (O.classes_of offer.now) (O.row_of offer.now) (O.is_taker offer.now) }
-        ensures { option_copied result ≡ find (waits_no_more (O.is_taker offer.now) (O.is_freed offer.now) space numbers.now) self.now }
+        ensures { option_copied result ≡ find (waits_no_more (O.is_taker offer.now) (freed_among (O.is_freed offer.now) (option_copied among.entry)) space numbers.now) self.now }
     {
         match &self.kept {
             Kept::Scanned(requests) => first_passing(
@@ -246,10 +250,46 @@ impl Waiters {
                 &Stirred {
                     space,
                     numbers,
+                    among,
                     offer,
                 },
             ),
-            Kept::Keyed(found) => first_stirred(&found.requests, space, numbers, offer),
+            Kept::Keyed(found) => first_stirred(&found.requests, space, numbers, among, offer),
+        }
+    }
+
+    /// Whether no request waits for a conflict to end.
+    pub fn are_all_patient(&self) -> bool
+        ensures { result ≡ not (list_any (λ b. waits_for_conflict b.form) self.now) }
+    {
+        match &self.kept {
+            Kept::Scanned(requests) => !any_waits_for_conflict(requests),
+            Kept::Keyed(found) => are_all_patient(&found.requests),
+        }
+    }
+
+    /// Whether the request of a number waits for a conflict to end and isn't held up.
+    pub fn is_freed<O: Offer>(&self, number: u64, offer: &O) -> bool
+        ensures { result ≡ list_any (freed_numbered (O.is_freed offer.now) number) self.now }
+    {
+        match &self.kept {
+            Kept::Scanned(requests) => any_freed(requests, number, offer),
+            Kept::Keyed(found) => is_freed(&found.requests, number, offer),
+        }
+    }
+
+    /// Numbers, among which are those of all requests that wait for a conflict to end and ask for a row.
+    pub fn waiting_for(
+        &self,
+        alloc: Global,
+        classes: &Classes,
+        row: &Row,
+    ) -> Result<Vec<u64>, NoMemory>
+        ensures { IfOk result (λ v. IsTrue (list_all (λ b. not (waits_for classes.now row.now b) || has v.items b.number) self.now)) }
+    {
+        match &self.kept {
+            Kept::Scanned(requests) => numbers_waiting_for(alloc, requests, classes, row),
+            Kept::Keyed(found) => waiting_for(alloc, &found.requests, classes, row),
         }
     }
 

@@ -19,8 +19,8 @@ returns-then-row-space g c =
     none_there (g.O.Offer.is_taker o n) c.args.space c.args.requests.now
     (λ b h e. c.if-row-space.true (asked_at classes b c.in-Some.row.now (asked_here classes (g.O.Offer.row_of o n) (unmarked c.in-Some.row.now) b c.in-Some.ensures (c.requires n b h)) ∙ e))
 
-pub first_above-requires : goal.first_above-requires
-first_above-requires g c = λ seed b h.
+pub first_matching-requires : goal.first_matching-requires
+first_matching-requires g c = λ seed b h.
     let o = c.args.offer.now in
     let n = c.args.number in
     let classes = g.O.Offer.classes_of o in
@@ -31,6 +31,6 @@ returns-else-row-space g c =
     let o = c.args.offer.now in
     let n = c.args.number in
     let classes = g.O.Offer.classes_of o in
-    c.first_above.ensures.found ∙ (start_find number (g.O.Offer.is_taker o n) c.args.requests.now c.first_above.ensures.positive
+    c.first_matching.ensures.found ∙ (start_find number (g.O.Offer.is_taker o n) c.args.requests.now c.first_matching.ensures.positive
     ∙ all_there (g.O.Offer.is_taker o n) c.args.space c.args.requests.now
     (λ b h. sym (asked_at classes b c.in-Some.row.now (asked_here classes (g.O.Offer.row_of o n) (unmarked c.in-Some.row.now) b c.in-Some.ensures (c.requires n b h))) ∙ c.if-row-space.false))

@@ -1,10 +1,11 @@
-use Rattle.std.proofs.Common.{◌≡◌, ℕ, Some, None, map, ap, sym, subst, ◌∙◌, cond, eqb, arith}
+use Rattle.std.proofs.Common.{◌≡◌, ℕ, true, Some, None, map, ap, sym, subst, ◌∙◌, cond, eqb, arith}
 use Rattle.std.specs.Prelude.{find, nat_le, ◌&&◌}
 use Rattle.jsp_table.specs.Finding.{AreNumbered, AreNamed}
 use Rattle.jsp_keyed.specs.Finding.{is_next}
 use Rattle.jsp_keyed.specs.Changing.{where_passed}
 use Rattle.jsp_keyed.proofs.Named.{first_of_named}
-use Rattle.jsp_keyed.proofs.Walking.{found_is_above}
+use Rattle.jsp_keys.specs.Templates.{seeks}
+use Rattle.jsp_keyed.proofs.Walking.{and_both, found_is_above}
 use Rattle.jsp_keyed.proofs.Sweeping.{up_to, next_changes, none_changed, all_changed, all_back, still_named}
 use Rattle.jsp_keyed.proofs.keyed.Keyed.try_change_named.Goals as goal
 
@@ -42,6 +43,13 @@ things-smaller g c =
     let first : Some x ≡ find (is_next num passed last) c.things.self = first_of_named num passed last ns c.things.self (Some x) c.in-Some.ensures.rising named c.in-Some.ensures.least in
     let above = found_is_above num passed last c.things.self x (sym first) in
     omega (arith, above, c.number-number.ensures, c.number-number.type_inv)
+
+pub change_all-requires-clause-seeks : goal.change_all-requires-clause-seeks
+change_all-requires-clause-seeks g c = λ seed x h.
+    let of = c.of.result in
+    let passed = λ (t : g.row.P.Denot). g.P.Test.is_passed t x in
+    let passes : passed c.args.test.now ≡ true = ap passed (sym c.of.ensures.test) ∙ (and_both (nat_le (g.K.Numbering.number_of x) of.last) (passed of.test.now) h).1 in
+    subst (λ (t : g.row.P.Denot). seeks seed (g.P.ByEntry.classes_of t) (g.P.ByEntry.space_of t) (g.P.ByEntry.entry_of t) (g.K.Keying.keys_of seed x) ≡ true) (sym c.of.ensures.test) (c.requires.seeks seed x passes)
 
 pub returns-in-Err-clause-err : goal.returns-in-Err-clause-err
 returns-in-Err-clause-err g c =

@@ -1,4 +1,4 @@
-use Rattle.std.proofs.Common.{◌≡◌, false, ℕ, ◌∙◌, ap, sym, ◌&&◌, List, map, eqb}
+use Rattle.std.proofs.Common.{ℕ, ◌∙◌, ap, sym, ◌&&◌, List, map, eqb}
 use Rattle.std.specs.Prelude.{◌==◌}
 use Rattle.std.specs.List.{list_any}
 use Rattle.jsp_model.specs.declared.state.Blocked.{Blocked}

@@ -1,9 +1,0 @@
-use Rattle.std.proofs.Common.{◌≡◌, length}
-use Rattle.jsp_keyed.specs.Keys.{mix_words as words_mixed}
-use Rattle.jsp_keyed.proofs.mixing.mix_words.Given as goal
-
-abbrev pub invariant-words : goal.invariant-words
-invariant-words l = words_mixed l.mixed l.left ≡ words_mixed l.fn.key l.fn.bytes
-
-abbrev pub decreases-words : goal.decreases-words
-decreases-words l = length l.left
