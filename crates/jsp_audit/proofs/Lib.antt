@@ -4,3 +4,4 @@ pub mod Sequences
 pub mod Stepping
 pub mod Judging
 pub mod OnOffer
+pub mod Stirred

@@ -27,10 +27,10 @@ all_by_each t [] h = refl
 all_by_each t (x ∷ xs) (h, hs) = and_from (t x) (list_all t xs) h (all_by_each t xs hs)
 
 -- what is said of each that the list has
-all_that : {A : Type 0} (t : A → Bool) (xs : List A) → ((x : A) → Has xs x → t x ≡ true) → list_all t xs ≡ true
+pub all_that : {A : Type 0} (t : A → Bool) (xs : List A) → ((x : A) → Has xs x → t x ≡ true) → list_all t xs ≡ true
 all_that t xs h = all_by_each t xs (each_weaker (Has xs) (λ x. t x ≡ true) h xs (each_itself xs))
 
-one_of_all : {A : Type 0} (t : A → Bool) (xs : List A) (x : A) → list_all t xs ≡ true → Has xs x → t x ≡ true
+pub one_of_all : {A : Type 0} (t : A → Bool) (xs : List A) (x : A) → list_all t xs ≡ true → Has xs x → t x ≡ true
 one_of_all t xs x h k = each_has (λ x. t x ≡ true) xs x (each_by_all t xs h) k
 
 below_top : {A : Type 0} (f : A → ℕ) (low high : ℕ) (xs : List A) → are_rising low high (map f xs) ≡ true → low < high × Each (λ x. f x < high) xs
@@ -64,7 +64,7 @@ needs_not st b r h e = let some = given_some st b st.rows r h e in rw some refl
 -- what the offers before it and after it are, and what is added between
 pub record Offered (st : State) (act : Step) (before within after : Option (List ℕ)) : Type 0 where
   pub old : are_offered before st ≡ true
-  pub any : frees_any act ≡ true → within ≡ None
+  pub any : frees_any st act ≡ true → within ≡ None
   pub freed : st.blocked ≢ [] → list_all (λ r. not (frees st act r) || is_offered within r.number) st.rows ≡ true
   pub keeps : (n : ℕ) → is_offered before n ≡ true → is_offered within n ≡ true
   pub new : (n : ℕ) → st.next_number ≤ n → n < (next st act).next_number → is_offered after n ≡ true
@@ -74,11 +74,11 @@ some_has : {A : Type 0} (xs : List A) (x : A) → Has xs x → xs ≢ []
 some_has [] x h e = absurd h
 some_has (y ∷ ys) x h e = absurd (cc)
 
-or_right : (a b : Bool) → b ≡ true → (a || b) ≡ true
+pub or_right : (a b : Bool) → b ≡ true → (a || b) ≡ true
 or_right true b e = refl
 or_right false b e = e
 
-one_that : (a b : Bool) → (not a || b) ≡ true → a ≡ true → b ≡ true
+pub one_that : (a b : Bool) → (not a || b) ≡ true → a ≡ true → b ≡ true
 one_that true b h e = h
 one_that false b h e = absurd (true≢false (sym e))
 
@@ -94,7 +94,7 @@ offered_after st act before within after limits o =
     below : (r : Row) → Has (next st act).rows r → r.number < (next st act).next_number
     below r h = each_has (λ (r : Row). r.number < (next st act).next_number) (next st act).rows r (below_top (λ (r : Row). r.number) 0 (next st act).next_number (next st act).rows limits.rows.rising).1 h
 
-    some : (b : Blocked) (r : Row) → Has (next st act).blocked b → Has (next st act).rows r → is_available (next st act) b r ≡ true → (d : Bool) → frees_any act ≡ d → is_offered after r.number ≡ true
+    some : (b : Blocked) (r : Row) → Has (next st act).blocked b → Has (next st act).rows r → is_available (next st act) b r ≡ true → (d : Bool) → frees_any st act ≡ d → is_offered after r.number ≡ true
     some b r in_blocked in_rows e true any = o.stays r.number (subst (λ w. is_offered w r.number ≡ true) (sym (o.any any)) refl)
     some b r in_blocked in_rows e false none = came (free_comes st act b r none in_rows e)
       where
@@ -108,7 +108,7 @@ offered_after st act before within after limits o =
         came (inr w) = subst (λ n. is_offered after n ≡ true) w.number (there w w.free (waiting_comes st act b in_blocked))
 
     each : (b : Blocked) (r : Row) → Has (next st act).blocked b → Has (next st act).rows r → (d : Bool) → is_available (next st act) b r ≡ d → (not d || is_offered after r.number) ≡ true
-    each b r in_blocked in_rows true e = some b r in_blocked in_rows e (frees_any act) refl
+    each b r in_blocked in_rows true e = some b r in_blocked in_rows e (frees_any st act) refl
     each b r in_blocked in_rows false e = refl
 
 -- ---- whole or not at all
@@ -122,7 +122,7 @@ more_offered st o p more h =
     go r false k = refl
 
 pub offered_either : {T E : Type 0} (result : Result T E) (st : State) (act : Step) (new : State) (before within after : Option (List ℕ)) → IsWithinLimits new → OnOk result (new ≡ next st act) → OnErr result (new ≡ st)
-    → are_offered before st ≡ true → (frees_any act ≡ true → within ≡ None) → (st.blocked ≢ [] → list_all (λ r. not (frees st act r) || is_offered within r.number) st.rows ≡ true)
+    → are_offered before st ≡ true → (frees_any st act ≡ true → within ≡ None) → (st.blocked ≢ [] → list_all (λ r. not (frees st act r) || is_offered within r.number) st.rows ≡ true)
     → ((n : ℕ) → is_offered before n ≡ true → is_offered within n ≡ true) → ((n : ℕ) → st.next_number ≤ n → n < new.next_number → is_offered after n ≡ true) → ((n : ℕ) → is_offered within n ≡ true → is_offered after n ≡ true)
     → are_offered after new ≡ true
 offered_either (Ok t) st act new before within after limits ok err old any freed keeps added stays =

@@ -5,3 +5,4 @@ pub mod Replay
 pub mod Spaces
 pub mod Posting
 pub mod Unmarking
+pub mod Stirring

@@ -15,6 +15,7 @@ use crate::changing::change;
 use crate::judge::refusal_in;
 use crate::offering::offer_let_go;
 use crate::saying::said_judged;
+use crate::stirring::stir;
 use jsp_core::{Core, LiveImage};
 use jsp_model::Step;
 use jsp_outbox::Posted;
@@ -57,7 +58,8 @@ pub fn apply_judged(
     Ok(())
 }
 
-/// Makes a step, and offers what it writes and lets go to the requests that wait.
+/// Makes a step, offers what it writes and lets go to the requests that wait, and stirs those of which it
+/// may end the conflict.
 fn make_and_offer(
     alloc: Global,
     image: &mut LiveImage,
@@ -75,6 +77,7 @@ fn make_and_offer(
     let sayings = said_judged(alloc, image, step, refused)?;
     let first_new = next_number(&image.state);
     offer_let_go(alloc, &image.state, &mut image.offers, step);
+    stir(alloc, &image.state, &mut image.stirred, step);
     let made = make(alloc, &mut image.state, step, refused, sayings);
     let past_new = next_number(&image.state);
     image.offers.add_between(first_new, past_new);

@@ -24,6 +24,7 @@ mod offering;
 mod replaying;
 mod saying;
 mod spaces;
+mod stirring;
 mod telling;
 mod touching;
 

@@ -1,1 +1,3 @@
 pub mod Offering
+pub mod ByNumber
+pub mod Searching

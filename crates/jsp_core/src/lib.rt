@@ -9,9 +9,11 @@
 
 mod live;
 mod offers;
+mod sessions;
 mod state;
 
 pub use jsp_store::Keeping;
 pub use live::LiveImage;
 pub use offers::Offers;
+pub use sessions::Sessions;
 pub use state::Core;

@@ -10,26 +10,28 @@ use std::alloc::Global;
 use std::marker::Model;
 
 /// A state within its limits, to be searched and changed. Contracts see it as the state. No waiting
-/// request may be given a row that isn't on offer.
+/// request may be given a row that isn't on offer, and those that wait for a conflict to end, and for which
+/// there is none, are among those that are stirred.
 ///
-/// Whoever changes the state shows both again.
+/// Whoever changes the state shows all three again.
 #[derive(Drop)]
 pub struct LiveImage {
     pub state: Core,
     pub offers: Offers,
+    pub stirred: Offers,
 }
 
 impl Model for LiveImage {
     ghost use Rattle.jsp_model.specs.declared.state.State.{State};
     ghost use Rattle.jsp_model.specs.Limits.{IsWithinLimits};
     ghost use Rattle.std.specs.Prelude.{IsTrue};
-    ghost use Rattle.jsp_core.specs.Offering.{are_offered};
+    ghost use Rattle.jsp_core.specs.Offering.{are_offered, are_stirred};
 
     ghost Value = { State };
 
     ghost view = { λ a. a.state };
 
-    ghost invariant = { λ a. IsWithinLimits a.state × IsTrue (are_offered a.offers a.state) };
+    ghost invariant = { λ a. IsWithinLimits a.state × IsTrue (are_offered a.offers a.state) × IsTrue (are_stirred a.stirred a.state) };
 }
 
 impl LiveImage {
@@ -42,6 +44,7 @@ impl LiveImage {
         Ok(LiveImage {
             state,
             offers: Offers::any(alloc),
+            stirred: Offers::any(alloc),
         })
     }
 

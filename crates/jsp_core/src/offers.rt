@@ -1,4 +1,4 @@
-//! The rows that are on offer to the requests that wait.
+//! The rows that are on offer to the requests that wait, and the requests that are stirred.
 ghost use Rattle.std.specs.Prelude.{◌≡◌, ◌≤◌, ◌<◌, ℕ, true, None, Some, [], filter, option_map, option_copied};
 ghost use Rattle.jsp_model.specs.Lookup.{contains as has};
 ghost use Rattle.jsp_core.specs.Offering.{is_offered};
@@ -12,6 +12,9 @@ use std::marker::Model;
 /// A row comes on offer when it is written or let go, and is so until no waiting request may be given
 /// it. So what waits is only looked at for the rows on offer. Nothing here fails: where memory is
 /// refused, any row is on offer.
+///
+/// Requests stand in such a list too: one that waits for a conflict to end is stirred when a row goes, or is
+/// let go, for which it asks, and is so until it is seen that another holds it up.
 #[derive(Drop)]
 pub struct Offers {
     is_any: bool,

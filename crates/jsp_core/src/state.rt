@@ -2,9 +2,8 @@
 ghost use Rattle.std.specs.Prelude.{◌≡◌, IfOk, IsTrue};
 ghost use Rattle.jsp_model.specs.Limits.{are_outboxes};
 
-use jsp_model::{
-    Blocked, Commit, MatchSet, Outbox, Registration, Row, Session, Space, State, Transaction,
-};
+use crate::Sessions;
+use jsp_model::{Blocked, Commit, MatchSet, Outbox, Registration, Row, Space, State, Transaction};
 use jsp_notify::Registrations;
 use jsp_outbox::Outboxes;
 use jsp_store::{Keeping, Rows};
@@ -19,7 +18,7 @@ use std::marker::Model;
 pub struct Core {
     pub classes: Classes,
     pub spaces: Items<Space>,
-    pub sessions: Items<Session>,
+    pub sessions: Sessions,
     pub last_session: u64,
     pub time: u64,
     pub next_number: u64,
@@ -72,7 +71,7 @@ impl Core {
         Ok(Core {
             classes,
             spaces,
-            sessions,
+            sessions: Sessions::of(sessions),
             last_session,
             time,
             next_number,
@@ -93,7 +92,7 @@ impl Core {
         Ok(State {
             classes: copy_classes(&self.classes)?,
             spaces: copy_spaces(&self.spaces)?,
-            sessions: copy_sessions(&self.sessions)?,
+            sessions: self.sessions.to_items()?,
             last_session: self.last_session,
             time: self.time,
             next_number: self.next_number,
@@ -196,12 +195,6 @@ fn copy_spaces(spaces: &Items<Space>) -> Result<Items<Space>, NoMemory>
     ensures { IfOk result (λ c. c ≡ spaces.now) }
 {
     spaces.clone()
-}
-
-fn copy_sessions(sessions: &Items<Session>) -> Result<Items<Session>, NoMemory>
-    ensures { IfOk result (λ c. c ≡ sessions.now) }
-{
-    sessions.clone()
 }
 
 fn copy_commits(commits: &Items<Commit>) -> Result<Items<Commit>, NoMemory>

@@ -78,7 +78,7 @@ pub(crate) fn reserve_places(state: &Core, log: &mut Vec<Step>) -> Result<(), No
     ensures capacity { vec_capacity log.old ≤ vec_capacity log.new }
     ensures ok { OnOk result (vec_len log.new + (length state.now.sessions + 2) ≤ vec_capacity log.new) }
 {
-    log.reserve(state.sessions.as_slice().len() + 2)?;
+    log.reserve(state.sessions.len() + 2)?;
     Ok(())
 }
 

@@ -1,8 +1,10 @@
 -- Where the rows come from that a request may be given after a step.
 use Rattle.std.proofs.Common.{◌≡◌, refl, sym, ◌∙◌, ap, subst, ℕ, ℤ, ◌+◌, ◌≤◌, ◌⊎◌, inl, inr, List, [], ◌∷◌, ◌++◌, Bool, true, false, not, cond, ◌||◌, ◌&&◌, filter, fold, Option, Some, None, is_some, ◌==◌, eqb-true, true≢false}
-use Rattle.std.specs.List.{list_all}
+use Rattle.std.specs.List.{list_any, list_all}
 use Rattle.std.specs.Option.{option_map_or}
 use Rattle.std.proofs.lemmas.Bool.{and_parts, and_from}
+use Rattle.jsp_types.specs.declared.class.Class.{Class}
+use Rattle.jsp_types.specs.Classes.{is_new, declared}
 use Rattle.jsp_types.specs.Tests.{first_that}
 use Rattle.jsp_wire.specs.declared.ask.Ask.{Ask}
 use Rattle.jsp_wire.specs.declared.ask.Ask.TheVariants as ask
@@ -21,14 +23,15 @@ use Rattle.jsp_model.specs.declared.step.Step.{Step}
 use Rattle.jsp_model.specs.declared.step.Step.TheVariants as step
 use Rattle.jsp_model.specs.Lookup.{update, contains, named, is_caller, rank_of, joined_at, joined_of, blocked_of}
 use Rattle.jsp_model.specs.Sight.{is_take, readable, is_available}
-use Rattle.jsp_model.specs.Refusals.{refusal, renew_tests}
-use Rattle.jsp_model.specs.Requests.{WriteRequest, RowRequest, one_entry, all_entries, one_row, many_rows, as_blocked, would_block, caller_of, place_of}
-use Rattle.jsp_model.specs.Changes.{owe, add_row, new_row, write, give, block, give_or_block, register, open_set, close, unread, forget, committed, published, commit, aborted, abort, is_not_changed, vote_of, cast, remove, extend, renew, renew_one, cancel, accepted}
+use Rattle.jsp_model.specs.Refusals.{refusal, renew_tests, lease_tests}
+use Rattle.jsp_model.specs.Requests.{WriteRequest, RowRequest, one_entry, all_entries, one_row, many_rows, as_blocked, would_block, class_asked, caller_of, place_of}
+use Rattle.jsp_model.specs.Changes.{owe, add_row, new_row, write, give, block, give_or_block, register, open_set, close, unread, forget, committed, published, commit, aborted, abort, is_not_changed, vote_of, cast, remove, extend, renew, renew_one, cancel, cancel_one, accepted}
 use Rattle.jsp_model.specs.Steps.{after_ask, is_too_long, after_grant, change, next}
-use Rattle.jsp_laws.proofs.Lists.{Each, Has, each_weaker, each_filter, each_map, each_update, each_touched, each_append, each_flat, each_has, each_itself, found_has, fold_keeps}
+use Rattle.jsp_laws.proofs.Lists.{Each, Has, each_weaker, each_filter, each_map, each_update, each_touched, each_append, each_flat, each_has, each_itself, found_has, fold_keeps, fold_keeps_each}
 use Rattle.jsp_laws.proofs.Sound.{after_giving}
 use Rattle.jsp_quiet.specs.Waking.{is_marked}
 use Rattle.jsp_quiet.specs.Freeing.{would_vote_not_changed, frees, ask_frees, ask_frees_any, frees_any, WasThere}
+use Rattle.jsp_quiet.proofs.Lists.{any_has}
 use Rattle.jsp_quiet.proofs.Still.{wanted, free_for}
 use Rattle.jsp_quiet.proofs.Spaces.{joining}
 use Rattle.jsp_quiet.proofs.Placed.{choose}
@@ -145,14 +148,14 @@ kept_unread st o x r m c = go (contains r.readers x) refl
     go true e = kept_marked st o r (unread x r) refl (m e) c
     go false e = subst (Kept st o) (sym (unread_same x r e)) c
 
-kept_aborted : (st : State) (x : ℕ) → Each (Kept st (is_marked x)) (aborted x st.rows)
-kept_aborted st x =
-    let o : Row → Bool = is_marked x in
-    let stay : Each (Kept st o) (filter (λ row. not (is_caller row.writer x)) st.rows) = each_filter (Kept st o) _ st.rows (kept_all st o) in
-    let back : Each (Kept st o) (update (λ row. is_caller row.taker x) (λ (row : Row). record row { taker = None }) (filter (λ row. not (is_caller row.writer x)) st.rows)) =
+-- where what the transaction marks passes the test
+kept_aborted : (st : State) (o : Row → Bool) (x : ℕ) → ((r : Row) → is_marked x r ≡ true → o r ≡ true) → (rows : List Row) → Each (Kept st o) rows → Each (Kept st o) (aborted x rows)
+kept_aborted st o x marks rows h =
+    let stay : Each (Kept st o) (filter (λ row. not (is_caller row.writer x)) rows) = each_filter (Kept st o) _ rows h in
+    let back : Each (Kept st o) (update (λ row. is_caller row.taker x) (λ (row : Row). record row { taker = None }) (filter (λ row. not (is_caller row.writer x)) rows)) =
     each_update (Kept st o) (Kept st o) (λ row. is_caller row.taker x) (λ (row : Row). record row { taker = None })
-    (λ r e c. kept_marked st o r (record r { taker = None }) refl (by_second (is_caller r.writer x) (is_caller r.taker x) (contains r.readers x) e) c) (λ r e c. c) _ stay in
-    each_map (Kept st o) (Kept st o) (unread x) (λ r c. kept_unread st o x r (by_reader x r) c) _ back
+    (λ r e c. kept_marked st o r (record r { taker = None }) refl (marks r (by_second (is_caller r.writer x) (is_caller r.taker x) (contains r.readers x) e)) c) (λ r e c. c) _ stay in
+    each_map (Kept st o) (Kept st o) (unread x) (λ r c. kept_unread st o x r (λ k. marks r (by_reader x r k)) c) _ back
 
 kept_committed : (st : State) (x : ℕ) → Each (Kept st (is_marked x)) (committed x st.rows)
 kept_committed st x =
@@ -171,7 +174,7 @@ kept_comes st o rows h = each_weaker (Kept st o) (Comes st o) (λ r c. inr (reco
     go r was (inr e) = inr (λ b k. subst (λ q. free_for st.classes b q ≡ true) e k)
 
 from_abort : (st : State) (x : ℕ) → From st (is_marked x) (abort st x)
-from_abort st x = record { classes = refl; rows = kept_comes st (is_marked x) (aborted x st.rows) (kept_aborted st x) }
+from_abort st x = record { classes = refl; rows = kept_comes st (is_marked x) (aborted x st.rows) (kept_aborted st (is_marked x) x (λ r e. e) st.rows (kept_all st (is_marked x))) }
 
 from_commit : (st : State) (x : ℕ) → From st (is_marked x) (commit st x)
 from_commit st x =
@@ -229,6 +232,36 @@ from_cancel st lease = go (rank_of st (named lease))
     go None = from_none st (is_marked (named lease))
     go (Some r) = from_remove st r (named lease)
 
+-- the classes stay, and each row is as it was, or passes the test
+record KeptIn (st : State) (o : Row → Bool) (k : State) : Type 0 where
+  classes : k.classes ≡ st.classes
+  rows : Each (Kept st o) k.rows
+
+kept_remove : (st : State) (o : Row → Bool) (k : State) (r : Rank) (n : ℕ) → ((row : Row) → is_marked n row ≡ true → o row ≡ true) → KeptIn st o k → KeptIn st o (remove k r n)
+kept_remove st o k rank.Entry n marks h = record { classes = h.classes; rows = each_filter (Kept st o) _ k.rows h.rows }
+kept_remove st o k rank.Registration n marks h = record { classes = h.classes; rows = h.rows }
+kept_remove st o k rank.Transaction n marks h = record { classes = h.classes; rows = kept_aborted st o n marks k.rows h.rows }
+kept_remove st o k rank.Blocked n marks h = record { classes = h.classes; rows = h.rows }
+kept_remove st o k rank.MatchSet n marks h = record { classes = h.classes; rows = h.rows }
+
+kept_cancel : (st : State) (o : Row → Bool) (k : State) (lease : ℤ) → ((row : Row) → is_marked (named lease) row ≡ true → o row ≡ true) → KeptIn st o k → KeptIn st o (cancel k lease)
+kept_cancel st o k lease marks h = go (rank_of k (named lease))
+  where
+    go : (r : Option Rank) → KeptIn st o (option_map_or (λ r. remove k r (named lease)) r k)
+    go None = h
+    go (Some r) = kept_remove st o k r (named lease) marks h
+
+-- those that are cancelled together let go what each lets go
+from_cancels : (st : State) (leases : List ℤ) → From st (λ row. list_any (λ l. is_marked (named l) row) leases) (fold cancel_one st leases)
+from_cancels st leases =
+    let o : Row → Bool = λ row. list_any (λ l. is_marked (named l) row) leases in
+    let one : Each (λ (l : ℤ). (row : Row) → is_marked (named l) row ≡ true → o row ≡ true) leases =
+    each_weaker (Has leases) (λ (l : ℤ). (row : Row) → is_marked (named l) row ≡ true → o row ≡ true) (λ l h row m. any_has (λ (l : ℤ). is_marked (named l) row) leases l h m) leases (each_itself leases) in
+    let all : KeptIn st o (fold cancel_one st leases) =
+    fold_keeps_each (λ (l : ℤ). (row : Row) → is_marked (named l) row ≡ true → o row ≡ true) (KeptIn st o) cancel_one
+    (λ k l marks h. choose (KeptIn st o) (is_some (first_that (lease_tests k l))) k (cancel k l) h (kept_cancel st o k l marks h)) leases one st (record { classes = refl; rows = kept_all st o }) in
+    record { classes = all.classes; rows = kept_comes st o (fold cancel_one st leases).rows all.rows }
+
 -- ---- requests
 
 -- a step that lets none go
@@ -267,8 +300,12 @@ from_open_set st o s x =
     let j = joining st (caller_of x.txn) (place_of st x.space) in
     subst (λ (k : State). From st o (record k { sets = (open_set st s x).sets; next_number = st.next_number + 1 })) (sym j.is) (record { classes = refl; rows = stood st o })
 
-from_accepted : (st : State) (s id : ℕ) (ns : List ℕ) (a : Ask) → ask_frees_any a ≡ false → From st (ask_frees a) (accepted st s id ns a)
-from_accepted st s id ns (ask.Declare d) e = absurd (cc)
+-- a class that was declared before
+from_declared : (st : State) (o : Row → Bool) (c : Class) → is_new st.classes c ≡ false → From st o (record st { classes = declared st.classes c })
+from_declared st o c e = record { classes = ap (λ (b : Bool). cond b (st.classes ++ c ∷ []) st.classes) e; rows = stood st o }
+
+from_accepted : (st : State) (s id : ℕ) (ns : List ℕ) (a : Ask) → ask_frees_any st a ≡ false → From st (ask_frees a) (accepted st s id ns a)
+from_accepted st s id ns (ask.Declare d) e = from_declared st no_row (class_asked d) e
 from_accepted st s id ns (ask.Write w) e = from_write st no_row (one_entry w)
 from_accepted st s id ns (ask.Read x) e = from_seek st no_row s id (one_row form.Read x) ns
 from_accepted st s id ns (ask.ReadIf x) e = from_seek st no_row s id (one_row form.ReadIf x) ns
@@ -278,7 +315,7 @@ from_accepted st s id ns (ask.Notify x) e = from_register st no_row s x
 from_accepted st s id ns (ask.Renew lease ms) e = from_renew st no_row st lease ms (from_none st no_row)
 from_accepted st s id ns (ask.Cancel lease) e = from_cancel st lease
 from_accepted st s id ns (ask.RenewAll leases) e = fold_keeps (From st no_row) renew_one (λ b l k. choose (From st no_row) (is_some (first_that (renew_tests b l.0 l.1))) b (renew b l.0 l.1) k (from_renew st no_row b l.0 l.1 k)) leases st (from_none st no_row)
-from_accepted st s id ns (ask.CancelAll leases) e = absurd (cc)
+from_accepted st s id ns (ask.CancelAll leases) e = from_cancels st leases
 from_accepted st s id ns (ask.Txn lease) e = record { classes = refl; rows = stood st no_row }
 from_accepted st s id ns (ask.Commit x) e = record { classes = refl; rows = stood st no_row }
 from_accepted st s id ns (ask.Abort x) e = from_abort st (named x)
@@ -293,7 +330,7 @@ from_accepted st s id ns (ask.Contents x) e = from_open_set st no_row s x
 from_accepted st s id ns (ask.Next set most) e = record { classes = refl; rows = stood st no_row }
 from_accepted st s id ns (ask.CloseSet set) e = record { classes = refl; rows = stood st no_row }
 
-from_asked : (st : State) (s id : ℕ) (ns : List ℕ) (a : Ask) (o : Option Refusal) → ask_frees_any a ≡ false → From st (ask_frees a) (after_ask st s id ns a o)
+from_asked : (st : State) (s id : ℕ) (ns : List ℕ) (a : Ask) (o : Option Refusal) → ask_frees_any st a ≡ false → From st (ask_frees a) (after_ask st s id ns a o)
 from_asked st s id ns a None e = from_accepted st s id ns a e
 from_asked st s id ns a (Some why) e = from_none st (ask_frees a)
 
@@ -303,7 +340,7 @@ from_granted : (st : State) (n : ℕ) (ns : List ℕ) (o : Option Blocked) → F
 from_granted st n ns None = from_none st no_row
 from_granted st n ns (Some b) = let h : From st no_row (give st b ns) = from_give st no_row st b ns (from_none st no_row) in record { classes = h.classes; rows = h.rows }
 
-from_change : (st : State) (act : Step) → frees_any act ≡ false → From st (frees st act) (change st act)
+from_change : (st : State) (act : Step) → frees_any st act ≡ false → From st (frees st act) (change st act)
 from_change st (step.Open s) e = record { classes = refl; rows = stood st no_row }
 from_change st (step.Shut s) e = record { classes = refl; rows = stood st no_row }
 from_change st (step.Clock t) e = record { classes = refl; rows = stood st no_row }
@@ -317,7 +354,7 @@ from_change st (step.Vote x space) e = from_vote st x space (joined_at st x spac
 from_change st (step.Decide x c) e = choose (From st (is_marked x)) c (commit st x) (abort st x) (from_commit st x) (from_abort st x)
 from_change st (step.HandOut s m) e = from_none st no_row
 
-pub free_comes : (st : State) (act : Step) (b : Blocked) (row : Row) → frees_any act ≡ false → Has (next st act).rows row → is_available (next st act) b row ≡ true → (st.next_number ≤ row.number) ⊎ WasThere st act b row
+pub free_comes : (st : State) (act : Step) (b : Blocked) (row : Row) → frees_any st act ≡ false → Has (next st act).rows row → is_available (next st act) b row ≡ true → (st.next_number ≤ row.number) ⊎ WasThere st act b row
 unfolding next
 free_comes st act b row e h a =
     let f : From st (frees st act) (change st act) = from_change st act e in

@@ -2,7 +2,7 @@
 use Rattle.std.proofs.Common.{◌≡◌, refl, sym, ap, ◌∙◌, List, [], ◌∷◌, ◌++◌, map, Bool, true, false, cond, ◌||◌, ◌&&◌, filter, flat_map, true≢false, append-nil, inl, inr, None}
 use Rattle.std.specs.Prelude.{find}
 use Rattle.std.specs.List.{list_any, list_all}
-use Rattle.std.proofs.lemmas.Bool.{and_parts, and_from}
+use Rattle.std.proofs.lemmas.Bool.{and_parts, and_from, or_parts}
 use Rattle.std.proofs.lemmas.List.Elements.{filter-append}
 use Rattle.jsp_model.specs.Lookup.{update}
 use Rattle.jsp_laws.proofs.Lists.{Each, Has}
@@ -123,3 +123,16 @@ find_none {A = A} t (x ∷ xs) y e h = go (t x) refl e h (find_none t xs y)
 pub all_has : {A : Type 0} (t : A → Bool) (xs : List A) → ((y : A) → Has xs y → t y ≡ true) → list_all t xs ≡ true
 all_has t [] h = refl
 all_has t (x ∷ xs) h = and_from (t x) (list_all t xs) (h x (inl refl)) (all_has t xs (λ y k. h y (inr k)))
+
+pub any_has : {A : Type 0} (t : A → Bool) (xs : List A) (x : A) → Has xs x → t x ≡ true → list_any t xs ≡ true
+any_has t [] x h e = absurd h
+any_has {A = A} t (y ∷ ys) x h e = go (t y) refl h (λ s. any_has t ys x s e)
+  where
+    go : (b : Bool) → t y ≡ b → Has (y ∷ ys) x → (Has ys x → list_any t ys ≡ true) → (b || list_any t ys) ≡ true
+    go true k h rest = refl
+    go false k (inl s) rest = absurd (true≢false (sym (ap t s ∙ e) ∙ k))
+    go false k (inr s) rest = rest s
+
+pub each_not : {A : Type 0} (t : A → Bool) (xs : List A) → list_any t xs ≡ false → Each (λ x. t x ≡ false) xs
+each_not t [] h = tt
+each_not t (x ∷ xs) h = let parts = or_parts (t x) (list_any t xs) h in (parts.0, each_not t xs parts.1)

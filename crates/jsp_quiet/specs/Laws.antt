@@ -11,7 +11,7 @@ use Rattle.jsp_model.specs.declared.house.Input.{Input}
 use Rattle.jsp_model.specs.declared.house.Stopped.{Stopped}
 use Rattle.jsp_lease.specs.declared.item.Item.{Item}
 use Rattle.jsp_model.specs.Lookup.{empty, contains}
-use Rattle.jsp_model.specs.Sight.{wants, is_available, available}
+use Rattle.jsp_model.specs.Sight.{wants, is_available, available, is_in_conflict, has_conflict}
 use Rattle.jsp_model.specs.Quiet.{must_wait, is_quiet, are_quiet}
 use Rattle.jsp_model.specs.Due.{due}
 use Rattle.jsp_model.specs.Touches.{touches}
@@ -19,10 +19,12 @@ use Rattle.jsp_model.specs.Steps.{is_legal, next}
 use Rattle.jsp_model.specs.Runs.{IsRun, state_after}
 use Rattle.jsp_model.specs.House.{is_unasked, touched, Acts}
 use Rattle.jsp_laws.proofs.Lists.{Each, Has}
+use Rattle.jsp_laws.proofs.Sound.{row_number}
+use Rattle.jsp_laws.proofs.Rising.{Rising}
 use Rattle.jsp_quiet.specs.Steady.{IsSteady}
 use Rattle.jsp_quiet.specs.Quieting.{stirs, stirred, decides, can_make_due, quiets, owed_events, left_to_say, living, asks_for_some, AllAskForSome}
 use Rattle.jsp_quiet.specs.Waking.{moves, moves_any}
-use Rattle.jsp_quiet.specs.Freeing.{frees_any, WasThere}
+use Rattle.jsp_quiet.specs.Freeing.{frees_any, ends_any, ends_conflict, WasThere}
 
 -- ---- steady states
 
@@ -78,8 +80,15 @@ WaitingComes =
 -- have been given it before too.
 abbrev pub FreeComes : Type 0
 FreeComes =
-    (st : State) (act : Step) (b : Blocked) (row : Row) → IsFalse (frees_any act) → Has (next st act).rows row
+    (st : State) (act : Step) (b : Blocked) (row : Row) → IsFalse (frees_any st act) → Has (next st act).rows row
     → IsTrue (is_available (next st act) b row) → (st.next_number ≤ row.number) ⊎ WasThere st act b row
+
+-- A row by which a request is held up goes on holding it up over a legal step, unless this may take a mark from the row,
+-- or the row away.
+abbrev pub ConflictStays : Type 0
+ConflictStays =
+    (st : State) (act : Step) (b : Blocked) (row : Row) → Rising row_number st.rows → IsTrue (is_legal st act) → IsFalse (ends_any st act)
+    → Has st.rows row → IsTrue (is_in_conflict st b row) → IsFalse (ends_conflict st act row) → IsTrue (has_conflict (next st act) b)
 
 -- ---- what becomes due
 

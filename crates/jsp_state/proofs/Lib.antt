@@ -4,4 +4,5 @@ pub mod Soonest
 pub mod Testing
 pub mod Unsatisfied
 pub mod OnOffer
+pub mod Stirred
 pub mod Rising

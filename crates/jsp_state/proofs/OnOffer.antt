@@ -12,7 +12,7 @@ use Rattle.jsp_model.specs.Sight.{is_available, available, is_if, has_conflict}
 use Rattle.jsp_model.specs.Quiet.{must_wait}
 use Rattle.jsp_model.specs.Limits.{are_rising}
 use Rattle.jsp_sight.specs.Rows.{wanted, unmarked}
-use Rattle.jsp_wait.specs.Offered.{IsAsked, AskForIt, takes_one, waits_no_more}
+use Rattle.jsp_wait.specs.Offered.{IsAsked, AskForIt, takes_one}
 use Rattle.jsp_core.specs.Offering.{are_offered}
 use Rattle.jsp_state.specs.Taking.{may_take}
 
@@ -37,7 +37,7 @@ passed_numbers p q (r ∷ rows) h = go (p r) h (passed_numbers p q rows)
     go true k ih = let parts = and_parts (q r.number) (list_all q (map (λ r. r.number) (filter p rows))) k in rw parts.0 (ih parts.1)
     go false k ih = ih k
 
-or_more : (a b : Bool) → b ≡ true → (a || b) ≡ true
+pub or_more : (a b : Bool) → b ≡ true → (a || b) ≡ true
 or_more true b k = refl
 or_more false b k = k
 
@@ -63,7 +63,7 @@ some_here (n ∷ found) ns h =
     let self : (n == n) ≡ true = eq-eqb n n refl in
     any_here (contains (n ∷ found)) ns n parts.0 (rw self refl) ∙ sym (ap not (not_zero n found))
 
-find_alike : {A : Type 0} (here t u : A → Bool) (xs : List A) → list_all (λ x. cond (t x) (u x) (not (u x))) xs ≡ true → find (λ x. here x && t x) xs ≡ find (λ x. here x && u x) xs
+pub find_alike : {A : Type 0} (here t u : A → Bool) (xs : List A) → list_all (λ x. cond (t x) (u x) (not (u x))) xs ≡ true → find (λ x. here x && t x) xs ≡ find (λ x. here x && u x) xs
 find_alike here t u [] h = refl
 find_alike {A = A} here t u (x ∷ xs) h =
     let parts = and_parts (cond (t x) (u x) (not (u x))) (list_all (λ x. cond (t x) (u x) (not (u x))) xs) h in
@@ -85,19 +85,19 @@ none_find here (x ∷ xs) = go (here x) (none_find here xs)
 
 -- ---- who may be given a row
 
-abbrev may_have : State → List ℕ → Blocked → Bool
+abbrev pub may_have : State → List ℕ → Blocked → Bool
 may_have st ns b = list_any (contains (available st b)) ns
 
-offered_to : (st : State) (ns : List ℕ) (b : Blocked) → list_all (λ r. not (is_available st b r) || contains ns r.number) st.rows ≡ true → may_have st ns b ≡ not (length (available st b) == 0)
+pub offered_to : (st : State) (ns : List ℕ) (b : Blocked) → list_all (λ r. not (is_available st b r) || contains ns r.number) st.rows ≡ true → may_have st ns b ≡ not (length (available st b) == 0)
 offered_to st ns b h = some_here (available st b) ns (numbers_pass (is_available st b) (contains ns) st.rows h)
 
-all_weaker : {A : Type 0} (t u : A → Bool) → ((x : A) → t x ≡ true → u x ≡ true) → (xs : List A) → list_all t xs ≡ true → list_all u xs ≡ true
+pub all_weaker : {A : Type 0} (t u : A → Bool) → ((x : A) → t x ≡ true → u x ≡ true) → (xs : List A) → list_all t xs ≡ true → list_all u xs ≡ true
 all_weaker t u f [] h = refl
 all_weaker t u f (x ∷ xs) h =
     let parts = and_parts (t x) (list_all t xs) h in
     and_from (u x) (list_all u xs) (f x parts.0) (all_weaker t u f xs parts.1)
 
-agree : (a b : Bool) → a ≡ b → cond a b (not b) ≡ true
+pub agree : (a b : Bool) → a ≡ b → cond a b (not b) ≡ true
 agree true true e = refl
 agree true false e = absurd (true≢false e)
 agree false true e = absurd (true≢false (sym e))
@@ -109,22 +109,6 @@ takers_are st ns space h =
     find_alike (λ (b : Blocked). b.space == space) (may_have st ns) (λ b. not (length (available st b) == 0)) st.blocked
     (all_weaker (λ b. list_all (λ r. not (is_available st b r) || contains ns r.number) st.rows) (λ b. cond (may_have st ns b) (not (length (available st b) == 0)) (not (not (length (available st b) == 0))))
     (λ b k. agree (may_have st ns b) (not (length (available st b) == 0)) (offered_to st ns b k)) st.blocked h)
-
-needs_not : (none : Bool) (m : Bool) (i c : Bool) → m ≡ not none → (m || (i && not c)) ≡ not (none && (not i || c))
-needs_not true m i c e = rw e (last i c)
-  where
-    last : (i c : Bool) → (i && not c) ≡ not (not i || c)
-    last true true = refl
-    last true false = refl
-    last false c = refl
-needs_not false m i c e = rw e refl
-
-pub stirred_are : (st : State) (ns : List ℕ) (space : ℕ) → are_offered (Some ns) st ≡ true
-    → find (λ b. b.space == space && (list_any (contains (available st b)) ns || (is_if b.form && not (has_conflict st b)))) st.blocked ≡ find (λ b. b.space == space && not (must_wait st b)) st.blocked
-stirred_are st ns space h =
-    find_alike (λ (b : Blocked). b.space == space) (λ b. may_have st ns b || (is_if b.form && not (has_conflict st b))) (λ b. not (must_wait st b)) st.blocked
-    (all_weaker (λ b. list_all (λ r. not (is_available st b r) || contains ns r.number) st.rows) (λ b. cond (may_have st ns b || (is_if b.form && not (has_conflict st b))) (not (must_wait st b)) (not (not (must_wait st b))))
-    (λ b k. agree (may_have st ns b || (is_if b.form && not (has_conflict st b))) (not (must_wait st b)) (needs_not (length (available st b) == 0) (may_have st ns b) (is_if b.form) (has_conflict st b) (offered_to st ns b k))) st.blocked h)
 
 pub no_takers : (st : State) (space : ℕ) → are_offered (Some []) st ≡ true → None ≡ find (λ b. b.space == space && not (length (available st b) == 0)) st.blocked
 no_takers st space h = sym (none_find (λ (b : Blocked). b.space == space) st.blocked) ∙ takers_are st [] space h
@@ -172,11 +156,11 @@ one_of_number p n low high (r ∷ rows) h =
 pub takes_it : (st : State) → are_rising 0 st.next_number (map (λ r. r.number) st.rows) ≡ true → (n : ℕ) (b : Blocked) → may_take st n b ≡ contains (available st b) n
 takes_it st up n b = one_of_number (is_available st b) n 0 st.next_number st.rows up
 
-any_same : {A : Type 0} (p q : A → Bool) (xs : List A) → ((x : A) → p x ≡ q x) → list_any p xs ≡ list_any q xs
+pub any_same : {A : Type 0} (p q : A → Bool) (xs : List A) → ((x : A) → p x ≡ q x) → list_any p xs ≡ list_any q xs
 any_same p q [] h = refl
 any_same p q (x ∷ xs) h = rw (h x) (ap (λ w. q x || w) (any_same p q xs h))
 
-find_same : {A : Type 0} (p q : A → Bool) (xs : List A) → ((x : A) → p x ≡ q x) → find p xs ≡ find q xs
+pub find_same : {A : Type 0} (p q : A → Bool) (xs : List A) → ((x : A) → p x ≡ q x) → find p xs ≡ find q xs
 find_same p q [] h = refl
 find_same p q (x ∷ xs) h = rw (h x) (ap (λ w. cond (q x) (Some x) w) (find_same p q xs h))
 
@@ -187,20 +171,13 @@ takers_of st ns space up h =
     (λ b. ap (λ w. b.space == space && w) (any_same (λ n. may_take st n b) (contains (available st b)) ns (λ n. takes_it st up n b)))
     ∙ takers_are st ns space h
 
-pub stirred_of : (st : State) (ns : List ℕ) (space : ℕ) → are_rising 0 st.next_number (map (λ r. r.number) st.rows) ≡ true → are_offered (Some ns) st ≡ true
-    → find (waits_no_more (may_take st) (λ b. not (has_conflict st b)) space ns) st.blocked ≡ find (λ b. b.space == space && not (must_wait st b)) st.blocked
-stirred_of st ns space up h =
-    find_same (waits_no_more (may_take st) (λ b. not (has_conflict st b)) space ns) (λ b. b.space == space && (list_any (contains (available st b)) ns || (is_if b.form && not (has_conflict st b)))) st.blocked
-    (λ b. ap (λ w. b.space == space && (w || (is_if b.form && not (has_conflict st b)))) (any_same (λ n. may_take st n b) (contains (available st b)) ns (λ n. takes_it st up n b)))
-    ∙ stirred_are st ns space h
-
 -- ---- what is taken off
 
 -- the number is of a row that a waiting request may be given
 abbrev pub is_wanted : State → ℕ → Bool
 is_wanted st n = list_any (λ b. contains (available st b) n) st.blocked
 
-kept_has : (t : ℕ → Bool) (ns : List ℕ) (n : ℕ) → contains ns n ≡ true → t n ≡ true → contains (filter t ns) n ≡ true
+pub kept_has : (t : ℕ → Bool) (ns : List ℕ) (n : ℕ) → contains ns n ≡ true → t n ≡ true → contains (filter t ns) n ≡ true
 kept_has t [] n e h = e
 kept_has t (m ∷ ns) n e h = go (m == n) refl (t m) refl e (kept_has t ns n)
   where
@@ -247,7 +224,7 @@ pub kept_offered : (st : State) (o : Option (List ℕ)) → are_offered o st ≡
 kept_offered st None h = h
 kept_offered st (Some ns) h = wanted_stay st ns st.blocked (λ n e. e) h
 
-filter_same : (p q : ℕ → Bool) (ns : List ℕ) → ((n : ℕ) → p n ≡ q n) → filter p ns ≡ filter q ns
+pub filter_same : (p q : ℕ → Bool) (ns : List ℕ) → ((n : ℕ) → p n ≡ q n) → filter p ns ≡ filter q ns
 filter_same p q [] h = refl
 filter_same p q (n ∷ ns) h = rw (h n) (ap (λ w. cond (q n) (n ∷ w) w) (filter_same p q ns h))
 

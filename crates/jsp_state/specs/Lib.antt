@@ -1,4 +1,3 @@
 pub mod Fitting
 pub mod Outboxes
-pub mod Versions
 pub mod Taking

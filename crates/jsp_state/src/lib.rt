@@ -21,6 +21,7 @@ mod sessions;
 mod sight;
 mod spaces;
 mod transactions;
+mod withdrawing;
 
 pub use access::space_refusal;
 pub use choices::{choose, is_choice};
@@ -28,7 +29,7 @@ pub use ends::due;
 pub use entries::{entries_refusal, entry_of, template_of, templates_of, templates_refusal};
 pub use jsp_sight::{contains, is_caller, is_if, is_readable, is_take};
 pub use numbers::{caller_of, is_used_up, named};
-pub use offered::{first_answerable, first_grantable, withdraw};
+pub use offered::{first_answerable, first_grantable};
 pub use outboxes::{hand_out, waiting};
 pub use quiet::is_quiet;
 pub use ranks::rank_of;
@@ -39,3 +40,4 @@ pub use spaces::{crash_count, names_of, place_of, space_named};
 pub use transactions::{
     commit_of, is_living, is_voting, joined_at, joined_otherwise, transaction_of,
 };
+pub use withdrawing::withdraw;

@@ -1,13 +1,14 @@
 //! Which of the requests that wait need wait no longer. Only rows on offer are looked at, each by those
-//! that may want it.
+//! that may want it, and of those that wait for a conflict to end only those that are stirred.
 ghost use Rattle.std.specs.Prelude.{◌≡◌, ◌==◌, ◌&&◌, not, map, length, find, option_copied, option_map, is_none, IsTrue, Some, None, []};
 ghost use Rattle.std.specs.Bool.{OnTrue};
 ghost use Rattle.std.specs.List.{list_any};
 ghost use Rattle.jsp_model.specs.Limits.{are_rising};
-ghost use Rattle.jsp_model.specs.Sight.{available, has_conflict as held_up};
+ghost use Rattle.jsp_model.specs.Sight.{available, is_if as waits_for_conflict, has_conflict as held_up};
 ghost use Rattle.jsp_model.specs.Quiet.{must_wait as waits};
 ghost use Rattle.jsp_sight.specs.Rows.{unmarked};
-ghost use Rattle.jsp_core.specs.Offering.{are_offered};
+ghost use Rattle.jsp_wait.specs.Offered.{freed_numbered};
+ghost use Rattle.jsp_core.specs.Offering.{are_offered, are_stirred};
 ghost use Rattle.jsp_state.specs.Taking.{may_take as takes_it};
 
 use crate::sight::{Answerable, Grantable, has_conflict};
@@ -35,7 +36,7 @@ pub fn first_answerable(image: &LiveImage, space: u64) -> Option<&Blocked>
     let state = &image.state;
     match image.offers.numbers() {
         None => state.blocked.first_at(space, &Answerable { state }),
-        Some(numbers) => first_stirred(state, space, numbers),
+        Some(numbers) => first_stirred(state, space, numbers, image.stirred.numbers()),
     }
 }
 
@@ -50,20 +51,26 @@ fn first_taker<'a>(state: &'a Core, space: u64, numbers: &[u64]) -> Option<&'a B
     state.blocked.first_taker(space, numbers, &RowsOf { state })
 }
 
-fn first_stirred<'a>(state: &'a Core, space: u64, numbers: &[u64]) -> Option<&'a Blocked>
+fn first_stirred<'a>(
+    state: &'a Core,
+    space: u64,
+    numbers: &[u64],
+    stirred: Option<&[u64]>,
+) -> Option<&'a Blocked>
     requires offered { IsTrue (are_offered (Some numbers.now) state.now) }
+    requires stirred { IsTrue (are_stirred (option_copied stirred) state.now) }
     requires rising { IsTrue (are_rising 0 state.now.next_number (map (λ r. r.number) state.now.rows)) }
     ensures { option_copied result ≡ find (λ b. b.space == space && not (waits state.now b)) state.now.blocked }
 {
     state
         .blocked
-        .first_stirred(space, numbers, &RowsOf { state })
+        .first_stirred(space, numbers, stirred, &RowsOf { state })
 }
 
 /// The rows of a state, by number, and who of those that wait may be given one.
 #[derive(Drop)]
-struct RowsOf<'a> {
-    state: &'a Core,
+pub(crate) struct RowsOf<'a> {
+    pub(crate) state: &'a Core,
 }
 
 impl<'a> Offer for RowsOf<'a> {
@@ -103,60 +110,4 @@ fn may_take(state: &Core, number: u64, request: &Blocked) -> bool
     ensures { result ≡ takes_it state.now number request.now }
 {
     state.rows.is_available(&state.classes, request, number)
-}
-
-/// Whether a row may be given to a request that waits.
-#[derive(Drop)]
-struct Wanted<'a> {
-    state: &'a Core,
-}
-
-impl<'a> Test<u64> for Wanted<'a> {
-    ghost is_passed = { λ t n. list_any (λ b. takes_it t.state.now n b) t.state.now.blocked };
-
-    fn passes(&self, number: &u64) -> bool {
-        is_wanted(self.state, *number)
-    }
-}
-
-fn is_wanted(state: &Core, number: u64) -> bool
-    ensures { result ≡ list_any (λ b. takes_it state.now number b) state.now.blocked }
-{
-    state.blocked.is_wanted(number, &RowsOf { state })
-}
-
-/// Takes off the rows that no waiting request may be given. The state stays.
-pub fn withdraw(image: &mut LiveImage)
-    ensures { image.new ≡ image.old }
-{
-    if nobody_waits(&image.state) {
-        image.offers.close();
-    } else if image.offers.numbers().is_some() {
-        image.offers.keep(&Wanted {
-            state: &image.state,
-        });
-    } else if is_nothing_wanted(&image.state) {
-        image.offers.close();
-    }
-}
-
-/// Whether it is seen at once that nobody waits.
-fn nobody_waits(state: &Core) -> bool
-    ensures { OnTrue result (state.now.blocked ≡ []) }
-{
-    state.blocked.is_known_empty()
-}
-
-/// Whether it is seen that no row may be given to a request that waits. Where a space has decisions to
-/// apply nobody looks: each row would be looked at for each request.
-fn is_nothing_wanted(state: &Core) -> bool
-    ensures { OnTrue result (find (λ b. not (length (available state.now b) == 0)) state.now.blocked ≡ None) }
-{
-    !state.rows.has_pending() && no_row_is_wanted(state)
-}
-
-fn no_row_is_wanted(state: &Core) -> bool
-    ensures { result ≡ is_none (find (λ b. not (length (available state.now b) == 0)) state.now.blocked) }
-{
-    state.blocked.first(&Grantable { state }).is_none()
 }

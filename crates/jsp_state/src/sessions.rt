@@ -1,9 +1,8 @@
 //! Sessions: which are open, what waits for their requests, opening and closing.
-ghost use Rattle.std.specs.Prelude.{◌≡◌, ◌==◌, ◌&&◌, not, nat_le, length, map, filter, OnOk, OnErr};
+ghost use Rattle.std.specs.Prelude.{◌≡◌, ◌==◌, ◌&&◌, nat_le, length, filter, OnOk, OnErr};
 ghost use Rattle.std.specs.List.{list_any};
 ghost use Rattle.jsp_model.specs.Lookup.{is_open as has_open, is_waiting as waits, waiting_count};
 ghost use Rattle.jsp_model.specs.Changes.{open_session, close as closed, set_version as with_version};
-ghost use Rattle.jsp_state.specs.Versions.{versioned};
 ghost use Rattle.jsp_model.specs.declared.limits.TheConstants.{MOST_WAITING};
 
 use jsp_core::Core;
@@ -15,11 +14,7 @@ use jsp_wire::Version;
 pub fn is_open(state: &Core, session: u64) -> bool
     ensures { result ≡ has_open state.now session }
 {
-    state
-        .sessions
-        .as_slice()
-        .iter()
-        .any(|k| k.number == session)
+    state.sessions.has(session)
 }
 
 /// Whether the session's request of this id waits.
@@ -69,7 +64,7 @@ pub fn close(state: &mut Core, session: u64)
     ensures { state.new ≡ closed state.old session }
 {
     let sessions = &mut state.sessions;
-    drop_session(&mut sessions.items, session);
+    sessions.remove(session);
     let blocked = &mut state.blocked;
     blocked.remove_of(session);
     let registrations = &mut state.registrations;
@@ -78,32 +73,10 @@ pub fn close(state: &mut Core, session: u64)
     sets.remove_of(session);
 }
 
-fn drop_session(sessions: &mut Vec<Session>, session: u64)
-    ensures { sessions.new.items ≡ filter (λ k. not (k.number == session)) sessions.old.items }
-{
-    sessions.retain(|k| !(k.number == session));
-}
-
 /// The session's line has this version from now on (this profile's own).
 pub fn set_version(state: &mut Core, session: u64, version: Version)
     ensures { state.new ≡ with_version state.old session version }
 {
     let sessions = &mut state.sessions;
-    set_versions(&mut sessions.items, session, version);
-}
-
-fn set_versions(sessions: &mut [Session], session: u64, version: Version)
-    ensures { sessions.new ≡ map (versioned session version) sessions.old }
-{
-    'sessions: for one in sessions.iter_mut() {
-        set_if_mine(one, session, version);
-    }
-}
-
-fn set_if_mine(one: &mut Session, session: u64, version: Version)
-    ensures { one.new ≡ versioned session version one.old }
-{
-    if one.number == session {
-        one.version = version;
-    }
+    sessions.set_version(session, version);
 }

@@ -1,6 +1,6 @@
 //! What a request finds in a state. Nothing here takes memory.
-ghost use Rattle.std.specs.Prelude.{◌≡◌, ◌==◌, not, length};
-ghost use Rattle.jsp_model.specs.Sight.{available, has_conflict as held_up};
+ghost use Rattle.std.specs.Prelude.{◌≡◌, ◌==◌, ◌&&◌, not, length};
+ghost use Rattle.jsp_model.specs.Sight.{available, is_if as waits_for_conflict, has_conflict as held_up};
 ghost use Rattle.jsp_model.specs.Quiet.{must_wait as waits};
 
 use jsp_core::Core;
@@ -42,6 +42,20 @@ impl<'a> Test<Blocked> for Answerable<'a> {
 
     fn passes(&self, blocked: &Blocked) -> bool {
         !must_wait(self.state, blocked)
+    }
+}
+
+/// Whether a request waits for a conflict to end, and none holds it up.
+#[derive(Drop)]
+pub(crate) struct LetGo<'a> {
+    pub(crate) state: &'a Core,
+}
+
+impl<'a> Test<Blocked> for LetGo<'a> {
+    ghost is_passed = { λ s b. waits_for_conflict b.form && not (held_up s.state.now b) };
+
+    fn passes(&self, blocked: &Blocked) -> bool {
+        is_if(blocked.form) && !has_conflict(self.state, blocked)
     }
 }
 

@@ -8,6 +8,7 @@ use Rattle.jsp_model.proofs.Apart.{next_handed}
 use Rattle.jsp_state.specs.Outboxes.{after_handing}
 use Rattle.jsp_audit.proofs.Stepping.{limits_handed, limits_either}
 use Rattle.jsp_audit.proofs.OnOffer.{offered_handed}
+use Rattle.jsp_audit.proofs.Stirred.{stirred_handed}
 use Rattle.jsp_audit.proofs.applying.hand_out.Goals as goal
 
 pub invariant_of-image : goal.invariant_of-image
@@ -19,6 +20,7 @@ invariant_of-image c =
           c.hand_out.ensures.ok
           c.hand_out.ensures.err,
       offered_handed c.hand_out.result st c.args.session c.args.count c.hand_out.new.state c.image.inside.offers c.hand_out.ensures.ok c.hand_out.ensures.err c.image.invariant.1,
+      stirred_handed c.hand_out.result st c.args.session c.args.count c.hand_out.new.state c.image.inside.stirred c.hand_out.ensures.ok c.hand_out.ensures.err c.image.invariant.2,
     )
 
 pub returns-clause-ok : goal.returns-clause-ok
