@@ -14,7 +14,7 @@ use crate::pending::{are_numbers_uncovered, are_uncovered, covers, place_of};
 use jsp_index::HintedRows;
 use jsp_model::{Row, Vote};
 use jsp_sight::Decision;
-use jsp_types::NoMemory;
+use jsp_types::{NoMemory, Text, Value};
 use std::alloc::Global;
 
 /// How many decisions may be left to apply where another is recorded: what asks for a row by its number,
@@ -84,6 +84,16 @@ impl DecidedRows {
         ensures { rows_of self.new ≡ filter (λ r. not (r.space == space)) (rows_of self.old) }
     {
         self.stored.clear(space);
+    }
+
+    // ---- what is learned
+
+    /// Rows of the space were searched for by a template of these fields, and the last that was found has
+    /// this number. Where many had to be looked at, more is learned of how to find such ones sooner.
+    pub fn learn(&mut self, space: u64, fields: &[(Text, Value)], last: Option<u64>)
+        ensures { rows_of self.new ≡ rows_of self.old }
+    {
+        self.stored.learn(space, fields, last);
     }
 
     // ---- the end of a transaction

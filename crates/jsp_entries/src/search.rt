@@ -26,7 +26,7 @@ use jsp_state::{
     space_refusal, templates_refusal, waits_for_many,
 };
 use jsp_transactions::{join, leave};
-use jsp_types::{Entry, Items, NoMemory};
+use jsp_types::{Entry, Items, NoMemory, Raw};
 use std::alloc::Global;
 
 /// Why a request for rows is refused, or nothing where it isn't (the order is this profile's own).
@@ -174,11 +174,35 @@ pub fn accept_search(
     let waiting = to_wait(alloc, state, session, id, rows, asked)?;
     let joining = join(state, caller_of(asked.txn), place_of(state, asked.space))?;
     match block_or_give(state, asked, waiting, rows) {
-        Ok(()) => Ok(()),
+        Ok(()) => {
+            learn(state, asked, rows);
+            Ok(())
+        }
         Err(e) => {
             leave(state, joining);
             Err(e)
         }
+    }
+}
+
+/// Where a search by several values had to look at many rows, more is learned of how to find such ones
+/// sooner.
+fn learn(state: &mut Core, asked: &RowsAsked, rows: &[u64])
+    ensures { state.new ≡ state.old }
+{
+    let space = place_of(state, asked.space);
+    let last = rows.last().copied();
+    'templates: for template in asked.templates {
+        learn_of(state, space, template, last);
+    }
+}
+
+fn learn_of(state: &mut Core, space: u64, template: &Option<Raw>, last: Option<u64>)
+    ensures { state.new ≡ state.old }
+{
+    if let Some(raw) = template {
+        let rows = &mut state.rows;
+        rows.learn(space, raw.fields.as_slice(), last);
     }
 }
 

@@ -14,7 +14,7 @@ use Rattle.jsp_types.specs.declared.entry.Template.TheVariants.{Like}
 use Rattle.jsp_types.specs.Matching.{is_null, value_eq, value_at, matches}
 use Rattle.jsp_model.specs.declared.state.Row.{Row}
 use Rattle.jsp_table.specs.Numbers.{contains}
-use Rattle.jsp_keyed.specs.Keys.{space_key, class_key, field_key}
+use Rattle.jsp_keys.specs.Keys.{space_key, class_key, field_key}
 use Rattle.jsp_keyed.specs.Finding.{is_sought}
 use Rattle.jsp_keyed.specs.Changing.{HasSameKeys as HasSameKeysBy}
 use Rattle.jsp_index.specs.Changing.{HasSameKeys}
@@ -28,7 +28,7 @@ and_both false b h = absurd (cc)
 pub eqb_eq : (a b : ℕ) → eqb a b ≡ true → a ≡ b
 eqb_eq a b h = elim (cases_eq a b) [ inl e ↦ e | inr ne ↦ absurd (cc (ne_eqb a b ne, h)) ]
 
-same_value : (a b : Value) → value_eq a b ≡ true → a ≡ b
+pub same_value : (a b : Value) → value_eq a b ≡ true → a ≡ b
 same_value value.Null value.Null h = refl
 same_value value.Null (value.Int n) h = absurd (cc)
 same_value value.Null (value.Text t) h = absurd (cc)

@@ -14,3 +14,4 @@ pub mod OwnRows
 pub mod InBoth
 pub mod ByStretches
 pub mod Fates
+pub mod Shaped

@@ -1,7 +1,8 @@
 -- Rows that are like a template, class by class, and those that are asked for, template by template.
-use Rattle.std.proofs.Common.{◌≡◌, ℕ, ◌+◌, ◌<◌, Bool, true, false, ◌&&◌, ◌||◌, eqb, List, [], ◌∷◌, ◌++◌, length, take, get_or, None, refl, ap, sym, ◌∙◌, arith, inl, inr, ◌⊎◌}
+use Rattle.std.proofs.Common.{◌≡◌, ℕ, ◌+◌, ◌<◌, Bool, true, false, ◌&&◌, ◌||◌, eqb, List, [], ◌∷◌, ◌++◌, length, take, get_or, None, refl, ap, sym, ◌∙◌, subst, arith, inl, inr, ◌⊎◌}
 use Rattle.std.specs.Prelude.{bytes_eq, ◌==◌}
 use Rattle.std.specs.List.{list_any}
+use Rattle.std.specs.HashMap.{HashMap}
 use Rattle.std.proofs.lemmas.List.{take_more}
 use Rattle.std.proofs.lemmas.Slice.Eq.{bytes_eq-Decides}
 use Rattle.jsp_types.specs.declared.class.Class.{Class}
@@ -15,20 +16,16 @@ use Rattle.jsp_table.specs.Numbers.{contains}
 use Rattle.jsp_table.specs.Finding.{AreNamed}
 use Rattle.jsp_table.proofs.Finding.{each}
 use Rattle.jsp_table.proofs.Rising.{or_cases}
-use Rattle.jsp_keyed.specs.Keys.{class_key}
+use Rattle.jsp_keys.specs.Keys.{class_key}
 use Rattle.jsp_index.specs.Keys.{row_keys}
-use Rattle.jsp_index.specs.Seen.{IsAmong}
-use Rattle.jsp_index.specs.Finding.{number, is_asked, is_like, IsLeast}
+use Rattle.jsp_index.specs.Seen.{seen_in, IsSeen}
+use Rattle.jsp_index.specs.Finding.{number, is_asked, is_like, is_like_of, IsLeast}
 use Rattle.jsp_index.proofs.Covering.{and_both, eqb_eq, class_has}
 
 pub and_true : (a b : Bool) → a ≡ true → b ≡ true → (a && b) ≡ true
 and_true a b h k = rw (h, k) refl
 
 -- ---- class by class
-
--- like the template, and of one of these classes
-abbrev pub is_like_of : List Class → ℕ → Entry → List (List ℕ) → Row → Bool
-is_like_of classes space like seen r = is_like classes space (Like like) r && list_any (λ c. bytes_eq c r.entry.class) seen
 
 any_end : {X : Type 0} (p : X → Bool) (xs : List X) (x : X) → list_any p (xs ++ x ∷ []) ≡ true → (list_any p xs ≡ true) ⊎ (p x ≡ true)
 any_end p [] x h = elim (or_cases (p x) false h) [ inl e ↦ inr e | inr e ↦ absurd (cc) ]
@@ -73,8 +70,35 @@ module _ (classes : List Class) (space : ℕ) (like : Entry) (class : List ℕ) 
         | inr e ↦ inr (and_true (is_like classes space (Like like) r) (bytes_eq class r.entry.class) two.0 e)
       ]
 
-pub of_seen : (classes : List Class) (space : ℕ) (like : Entry) (seen : List (List ℕ)) (r : Row) → IsAmong seen r.entry.class → is_like classes space (Like like) r ≡ true → is_like_of classes space like seen r ≡ true
-of_seen classes space like seen r among h = and_true (is_like classes space (Like like) r) (list_any (λ c. bytes_eq c r.entry.class) seen) h among
+-- where each row of the space has one of the classes
+pub of_seen : {S : Type 0} (seen : HashMap ℕ (List (List ℕ)) S) (classes : List Class) (space : ℕ) (like : Entry) (r : Row) → IsSeen seen r.space r.entry.class → is_like classes space (Like like) r ≡ true → is_like_of classes space like (seen_in seen space) r ≡ true
+of_seen seen classes space like r is h =
+    let at : r.space ≡ space = eqb_eq r.space space (and_both (eqb r.space space) (matches classes (Like like) r.entry) h).0 in
+    and_true (is_like classes space (Like like) r) (list_any (λ c. bytes_eq c r.entry.class) (seen_in seen space)) h (subst (λ (s : ℕ). IsSeen seen s r.entry.class) at is)
+
+-- where each class that has the template's in its line is that one, or below it
+pub of_below : (classes : List Class) (space : ℕ) (like : Entry) (below : List (List ℕ)) → ((c : List ℕ) → is_sub classes c like.class ≡ true → (bytes_eq c like.class || list_any (bytes_eq c) below) ≡ true) → (r : Row) → is_like classes space (Like like) r ≡ true
+    → (is_like_and classes space like like.class r ≡ true) ⊎ (is_like_of classes space like below r ≡ true)
+of_below classes space like below covers r h =
+    let matched = (and_both (eqb r.space space) (matches classes (Like like) r.entry) h).1 in
+    let sub = (and_both (is_sub classes r.entry.class like.class) _ matched).0 in
+    elim (or_cases (bytes_eq r.entry.class like.class) (list_any (bytes_eq r.entry.class) below) (covers r.entry.class sub)) [
+      | inl e ↦ inl (and_true (is_like classes space (Like like) r) (bytes_eq like.class r.entry.class) h (bytes_turned r.entry.class like.class e))
+      | inr e ↦ inr (and_true (is_like classes space (Like like) r) (list_any (λ c. bytes_eq c r.entry.class) below) h (any_turned r.entry.class below e))
+    ] where
+      bytes_turned : (a b : List ℕ) → bytes_eq a b ≡ true → bytes_eq b a ≡ true
+      bytes_turned a b e = (bytes_eq-Decides b a).1 (sym ((bytes_eq-Decides a b).0 e))
+
+      or_later : (a b : Bool) → b ≡ true → (a || b) ≡ true
+      or_later true b h = refl
+      or_later false b h = h
+
+      any_turned : (a : List ℕ) (names : List (List ℕ)) → list_any (bytes_eq a) names ≡ true → list_any (λ c. bytes_eq c a) names ≡ true
+      any_turned a [] e = absurd (cc)
+      any_turned a (b ∷ names) e = elim (or_cases (bytes_eq a b) (list_any (bytes_eq a) names) e) [
+        | inl f ↦ rw (bytes_turned a b f) refl
+        | inr f ↦ or_later (bytes_eq b a) (list_any (λ c. bytes_eq c a) names) (any_turned a names f)
+      ]
 
 -- ---- template by template
 

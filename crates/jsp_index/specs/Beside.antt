@@ -5,6 +5,6 @@ use Rattle.jsp_model.specs.declared.state.Row.{Row}
 use Rattle.jsp_index.specs.Seen.{AreSeen}
 use Rattle.jsp_index.specs.Counted.{AreCounted}
 
-pub record IsBeside {S : Type 0} (seen : List (List ℕ)) (counts : HashMap ℕ ℕ S) (rows : List Row) : Type 0 where
+pub record IsBeside {S : Type 0} (seen : HashMap ℕ (List (List ℕ)) S) (counts : HashMap ℕ ℕ S) (rows : List Row) : Type 0 where
   pub classes : AreSeen seen rows
   pub spaces : AreCounted counts rows

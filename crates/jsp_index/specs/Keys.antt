@@ -3,7 +3,7 @@ use Rattle.std.specs.Prelude.{ℕ, if◌then◌else◌, List, ◌∷◌, map}
 use Rattle.jsp_types.specs.declared.value.Value.{Value}
 use Rattle.jsp_types.specs.Matching.{is_null}
 use Rattle.jsp_model.specs.declared.state.Row.{Row}
-use Rattle.jsp_keyed.specs.Keys.{space_key, class_key, field_key}
+use Rattle.jsp_keys.specs.Keys.{space_key, class_key, field_key}
 
 -- what has no value in a field has its space's key once more
 abbrev pub value_key : ℕ → ℕ → List ℕ × Value → ℕ

@@ -10,3 +10,4 @@ pub mod Counted
 pub mod Beside
 pub mod Own
 pub mod Ending
+pub mod Shapes

@@ -4,7 +4,8 @@ ghost use Rattle.jsp_lease.specs.declared.item.Rank.TheVariants.{Entry as OfRank
 ghost use Rattle.jsp_index.specs.Keys.{value_key, row_keys};
 
 use crate::NoMemory;
-use jsp_keyed::{Keyed, Keying, key_of_class, key_of_field, key_of_space};
+use jsp_keyed::{Keyed, Keying};
+use jsp_keys::{key_of_class, key_of_field, key_of_space};
 use jsp_model::{Rank, Row};
 use jsp_table::Numbering;
 use jsp_types::{Text, Value};

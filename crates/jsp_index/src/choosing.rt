@@ -2,7 +2,7 @@
 ghost use Rattle.std.specs.Prelude.{◌≡◌, ◌⊎◌, List, Some, option_copied, IfSome};
 ghost use Rattle.jsp_types.specs.declared.class.Class.{Class as OfClass};
 ghost use Rattle.jsp_types.specs.declared.entry.Template.TheVariants.{Like};
-ghost use Rattle.jsp_keyed.specs.Keys.{field_key};
+ghost use Rattle.jsp_keys.specs.Keys.{field_key};
 ghost use Rattle.jsp_keyed.specs.Finding.{HaveKey};
 ghost use Rattle.jsp_index.specs.Keys.{row_keys};
 ghost use Rattle.jsp_index.specs.Finding.{is_like};

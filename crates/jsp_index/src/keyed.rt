@@ -16,12 +16,12 @@ use crate::by_number::Rows;
 use crate::changing::{Reading, Taking};
 use crate::counting::{count_all, make_room_for, uncount_all};
 use crate::passing::{drop_starts, pass, pass_all, put_all_above, put_number_above};
-use crate::seeing::see_all;
+use crate::seeing::{Seen, forget_all, forget_with, see_all};
+use crate::shapes::Shapes;
 use crate::starts::{Starts, Unseen, start_of};
 use jsp_keyed::{Key, Keyed};
 use jsp_model::Row;
 use jsp_table::{Change, Counts, Numbers, count_of, count_one_less, drop_count};
-use jsp_types::{Items, Text};
 use std::alloc::Global;
 use std::collections::HashMap;
 use std::marker::Model;
@@ -31,13 +31,15 @@ use std::marker::Model;
 #[derive(Drop)]
 pub(crate) struct KeyedRows {
     pub(crate) rows: Rows,
-    /// The classes that rows had so far.
-    pub(crate) seen: Items<Text>,
+    pub(crate) alloc: Global,
+    /// The classes that were seen in each space.
+    pub(crate) seen: Seen,
     /// How many rows each space has. One whose rows went keeps a count of 0 until it is cleared.
     counts: Counts,
-    seed: u64,
+    pub(crate) seed: u64,
     /// Up to where the rows that have a key are held by transactions.
     starts: Starts,
+    pub(crate) shapes: Shapes,
 }
 
 /// What is named under a key, and the number up to which none of its rows can be had.
@@ -52,12 +54,13 @@ impl Model for KeyedRows {
     ghost use Rattle.jsp_model.specs.declared.state.Row.{Row};
     ghost use Rattle.jsp_index.specs.Beside.{IsBeside};
     ghost use Rattle.jsp_index.specs.Passed.{ArePassed};
+    ghost use Rattle.jsp_index.specs.Shapes.{AreShaped};
 
     ghost Value = { List Row };
 
     ghost view = { λ k. k.rows };
 
-    ghost invariant = { λ k. IsBeside k.seen k.counts k.rows × ArePassed k.seed k.starts k.rows };
+    ghost invariant = { λ k. IsBeside k.seen k.counts k.rows × (ArePassed k.seed k.starts k.rows × AreShaped k.seed k.shapes.list k.rows) };
 }
 
 impl KeyedRows {
@@ -67,10 +70,12 @@ impl KeyedRows {
     {
         KeyedRows {
             rows: Keyed::new(alloc, seed),
-            seen: Items::new(alloc),
+            alloc,
+            seen: HashMap::new(alloc),
             counts: HashMap::new(alloc),
             seed,
             starts: HashMap::new(alloc),
+            shapes: Shapes::new(alloc),
         }
     }
 
@@ -99,15 +104,17 @@ impl KeyedRows {
         ensures err { OnErr result (self.new ≡ self.old) }
         ensures rows_stay { OnErr result (rows.new.items ≡ rows.old.items) }
     {
-        see_all(&mut self.seen, rows)?;
+        see_all(self.alloc, &mut self.seen, rows)?;
         make_room_for(&mut self.counts, rows)?;
         put_all_above(&mut self.starts, self.seed, rows);
         // Which says how many rows there are at most, so that more can be counted.
         let _ = self.rows.places();
         count_all(&mut self.counts, rows);
         let (first, hidden) = hidden_among(rows);
+        self.shapes.add(self.alloc, self.seed, rows);
         if let Err(e) = self.rows.append(rows) {
             uncount_all(&mut self.counts, rows);
+            self.shapes.clear();
             return Err(e);
         }
         pass_all(&mut self.starts, &self.rows, self.seed, first, hidden);
@@ -142,6 +149,8 @@ impl KeyedRows {
         };
         count_one_less(&mut self.counts, row.space);
         drop_starts(&mut self.starts, &self.rows, self.seed, row);
+        forget_with(&mut self.seen, &self.rows, row);
+        self.shapes.remove(self.seed, row);
         self.rows.remove(number);
     }
 
@@ -151,6 +160,8 @@ impl KeyedRows {
     {
         self.rows.remove_all(&InSpace { space });
         drop_count(&mut self.counts, space);
+        forget_all(&mut self.seen, space);
+        self.shapes.forget(space);
         self.starts.clear();
     }
 

@@ -4,7 +4,7 @@ ghost use Rattle.std.specs.List.{AllByRecursion};
 ghost use Rattle.jsp_model.specs.declared.state.Row.{Row as OfRow};
 ghost use Rattle.jsp_types.specs.declared.entry.Template.TheVariants.{Like};
 ghost use Rattle.jsp_table.specs.Finding.{AreNamed};
-ghost use Rattle.jsp_index.specs.Finding.{number as number_of, is_next, is_asked, is_like, IsLeast};
+ghost use Rattle.jsp_index.specs.Finding.{number as number_of, is_next, is_asked, is_like, is_like_of, IsLeast};
 ghost use Rattle.jsp_index.specs.Numbered.{AreNumbered};
 ghost use Rattle.jsp_index.specs.Passed.{AreOpen, AreListed};
 ghost use Rattle.jsp_index.specs.Own.{AreAmong, AreWithin};
@@ -14,12 +14,14 @@ use crate::both::first_in_both;
 use crate::by_number::{ByNumber, Rows};
 use crate::choosing::rarest_field;
 use crate::keyed::{KeyedRows, Listed};
+use crate::learning::MANY;
+use crate::seeing::seen_in;
 use crate::seeking::{OfClass, OfField};
 use crate::starts::Unseen;
 use jsp_keyed::lesser;
 use jsp_model::Row;
 use jsp_table::{Numbers, Test};
-use jsp_types::{Classes, Entry, Template};
+use jsp_types::{Classes, Entry, Template, Text};
 
 /// Behind which rows a search begins: those up to a number, and those at the head of a list that it
 /// can't have. And the last number that it looks at, if there is one, and the numbers among which it
@@ -98,8 +100,35 @@ impl KeyedRows {
         }
     }
 
+    /// The first row of the space and of one of these classes that passes the test and is like the
+    /// template.
+    fn first_of_each<P: Test<Row>>(
+        &self,
+        classes: &Classes,
+        space: u64,
+        names: &[Text],
+        like: &Entry,
+        behind: &Behind,
+        test: &P,
+    ) -> Option<&Row>
+        requires had { AreOpen behind.now.unseen (P.is_passed test.now) self.now }
+        requires within { AreWithin behind.now.last (P.is_passed test.now) self.now }
+        requires among { IfSome (option_copied behind.now.among) (λ own. AreAmong own (P.is_passed test.now) self.now) }
+        ensures { IsLeast (is_next (P.is_passed test.now) behind.now.number) (is_like_of classes.now space like.now names.now) self.now (option_copied result) }
+    {
+        let mut first = None;
+        'classes: for class in names {
+            first = lesser::<Row, ByNumber>(
+                first,
+                self.first_of_class(classes, space, class.as_str(), like, behind, test),
+            );
+        }
+        first
+    }
+
     /// The first row of the space that passes the test and is like the template: it is looked for in
-    /// the lists of the template's class and its subclasses.
+    /// the lists of the template's class and of those below it, or of those that were seen in the
+    /// space where that are fewer.
     fn first_of_classes<P: Test<Row>>(
         &self,
         classes: &Classes,
@@ -113,18 +142,20 @@ impl KeyedRows {
         requires among { IfSome (option_copied behind.now.among) (λ own. AreAmong own (P.is_passed test.now) self.now) }
         ensures { IsLeast (is_next (P.is_passed test.now) behind.now.number) (is_like classes.now space (Like like.now)) self.now (option_copied result) }
     {
-        let mut first = None;
-        'classes: for class in self.seen.as_slice() {
-            first = lesser::<Row, ByNumber>(
-                first,
-                self.first_of_class(classes, space, class.as_str(), like, behind, test),
-            );
+        let seen = seen_in(&self.seen, space);
+        let class = like.class.as_str();
+        let below = classes.below(class);
+        if seen.len() <= below.len() {
+            return self.first_of_each(classes, space, seen, like, behind, test);
         }
-        first
+        lesser::<Row, ByNumber>(
+            self.first_of_class(classes, space, class, like, behind, test),
+            self.first_of_each(classes, space, below, like, behind, test),
+        )
     }
 
-    /// The first row of the space that passes the test and is like the template: it is looked for in
-    /// the shortest list of a field's value or, where no field has one, in those of classes.
+    /// The first row of the space that passes the test and is like the template: it is looked for among
+    /// those that have its values together, where that is learned and they are few.
     fn first_like<P: Test<Row>>(
         &self,
         classes: &Classes,
@@ -143,13 +174,41 @@ impl KeyedRows {
                 let listed = self.listed(&InSpace { space }, behind.unseen);
                 self.first_listed(&listed, behind, test)
             }
-            Template::Like(like) => match rarest_field(&self.rows, like, space) {
-                None => self.first_of_classes(classes, space, like, behind, test),
-                Some(field) => {
-                    let listed = self.listed(&OfField { space, field }, behind.unseen);
-                    self.first_listed(&listed, behind, test)
+            Template::Like(like) => {
+                // Which says that no number is 0.
+                let _ = self.rows.places();
+                match self.shapes.listed(self.seed, space, like) {
+                    Some(numbers) if numbers.len() < MANY => {
+                        let listed = Listed { numbers, start: 0 };
+                        self.first_listed(&listed, behind, test)
+                    }
+                    _ => self.first_by_field(classes, space, like, behind, test),
                 }
-            },
+            }
+        }
+    }
+
+    /// The first row of the space that passes the test and is like the template: it is looked for in
+    /// the shortest list of a field's value or, where no field has one, in those of classes.
+    fn first_by_field<P: Test<Row>>(
+        &self,
+        classes: &Classes,
+        space: u64,
+        like: &Entry,
+        behind: &Behind,
+        test: &P,
+    ) -> Option<&Row>
+        requires had { AreOpen behind.now.unseen (P.is_passed test.now) self.now }
+        requires within { AreWithin behind.now.last (P.is_passed test.now) self.now }
+        requires among { IfSome (option_copied behind.now.among) (λ own. AreAmong own (P.is_passed test.now) self.now) }
+        ensures { IsLeast (is_next (P.is_passed test.now) behind.now.number) (is_like classes.now space (Like like.now)) self.now (option_copied result) }
+    {
+        match rarest_field(&self.rows, like, space) {
+            None => self.first_of_classes(classes, space, like, behind, test),
+            Some(field) => {
+                let listed = self.listed(&OfField { space, field }, behind.unseen);
+                self.first_listed(&listed, behind, test)
+            }
         }
     }
 

@@ -1,9 +1,10 @@
 //! The keys under which rows are sought.
 ghost use Rattle.std.specs.Prelude.{[], ◌∷◌};
-ghost use Rattle.jsp_keyed.specs.Keys.{space_key, class_key, field_key};
+ghost use Rattle.jsp_keys.specs.Keys.{space_key, class_key, field_key};
 
 use crate::asking::InSpace;
-use jsp_keyed::{Key, Keys, key_of_class, key_of_field, key_of_space};
+use jsp_keyed::{Key, Keys};
+use jsp_keys::{key_of_class, key_of_field, key_of_space};
 use jsp_types::{Text, Value};
 
 impl Key for InSpace {

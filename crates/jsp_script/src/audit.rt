@@ -44,7 +44,10 @@ fn said_by(
     ensures fault { IfErr result (ReplayFails config.now steps.now) }
 {
     match replay(alloc, config, steps, seed) {
-        Ok(replayed) => Ok(streams_said(alloc, replayed.said.as_slice())?),
+        Ok(replayed) => match streams_said(alloc, replayed.said.as_slice()) {
+            Ok(said) => Ok(said),
+            Err(_) => Err(ScriptFault::NoMemory),
+        },
         Err(ReplayFault::Illegal(_)) => Err(ScriptFault::DoesNotReplay),
         Err(ReplayFault::NoMemory) => Err(ScriptFault::NoMemory),
     }

@@ -13,7 +13,7 @@ ghost use Rattle.jsp_sight.specs.Rows.{offered, offered_among, held, entries_amo
 use jsp_decided::DecidedRows;
 use jsp_model::{Blocked, Item, MatchSet, Row, Vote};
 use jsp_scan::ScannedRows;
-use jsp_types::{Classes, Entry, Items, NoMemory};
+use jsp_types::{Classes, Entry, Items, NoMemory, Text, Value};
 use std::alloc::Global;
 use std::marker::Model;
 
@@ -133,6 +133,21 @@ impl Rows {
         match &mut self.kept {
             Kept::Scanned(rows) => rows.clear(space),
             Kept::Hinted(rows) => rows.clear(space),
+        }
+    }
+
+    // ---- what is learned
+
+    /// Rows of the space were searched for by a template of these fields, and the last that was found has
+    /// this number. Where many had to be looked at, more is learned of how to find such ones sooner; where
+    /// memory is refused it isn't.
+    pub fn learn(&mut self, space: u64, fields: &[(Text, Value)], last: Option<u64>)
+        ensures { self.new ≡ self.old }
+    {
+        match &mut self.kept {
+            // Each row is looked at.
+            Kept::Scanned(_) => {}
+            Kept::Hinted(rows) => rows.learn(space, fields, last),
         }
     }
 

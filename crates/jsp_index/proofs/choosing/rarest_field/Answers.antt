@@ -5,7 +5,7 @@ use Rattle.jsp_types.specs.declared.class.Class.{Class}
 use Rattle.jsp_types.specs.declared.value.Value.{Value}
 use Rattle.jsp_types.specs.declared.entry.Template.TheVariants.{Like}
 use Rattle.jsp_types.specs.Matching.{is_null}
-use Rattle.jsp_keyed.specs.Keys.{field_key}
+use Rattle.jsp_keys.specs.Keys.{field_key}
 use Rattle.jsp_keyed.specs.Finding.{HaveKey}
 use Rattle.jsp_index.specs.Keys.{row_keys}
 use Rattle.jsp_index.specs.Finding.{is_like}

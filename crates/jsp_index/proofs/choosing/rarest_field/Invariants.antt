@@ -2,7 +2,7 @@ use Rattle.std.proofs.Common.{List, option_copied}
 use Rattle.std.specs.Prelude.{IfSome}
 use Rattle.jsp_types.specs.declared.class.Class.{Class}
 use Rattle.jsp_types.specs.declared.entry.Template.TheVariants.{Like}
-use Rattle.jsp_keyed.specs.Keys.{field_key}
+use Rattle.jsp_keys.specs.Keys.{field_key}
 use Rattle.jsp_keyed.specs.Finding.{HaveKey}
 use Rattle.jsp_index.specs.Keys.{row_keys}
 use Rattle.jsp_index.specs.Finding.{is_like}

@@ -1,7 +1,7 @@
 use Rattle.std.proofs.Common.{◌≤◌, [], ◌∷◌, map, refl, sym, ◌∙◌, arith}
 use Rattle.std.proofs.lemmas.Grind.{common_steps}
 use Rattle.std.proofs.lemmas.List.{get_or-append_right}
-use Rattle.jsp_keyed.specs.Keys.{space_key, class_key}
+use Rattle.jsp_keys.specs.Keys.{space_key, class_key}
 use Rattle.jsp_index.specs.Keys.{value_key}
 use Rattle.jsp_index.proofs.by_number.ByNumberKeyingRow.key.Goals as goal
 

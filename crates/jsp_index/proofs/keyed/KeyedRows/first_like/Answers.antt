@@ -1,11 +1,13 @@
-use Rattle.std.proofs.Common.{sym, subst}
+use Rattle.std.proofs.Common.{◌<◌, List, sym, subst}
+use Rattle.std.specs.List.{AllByRecursion}
 use Rattle.jsp_types.specs.declared.entry.Template.{Template}
-use Rattle.jsp_keyed.specs.Keys.{field_key}
-use Rattle.jsp_keyed.specs.Finding.{HaveKey}
-use Rattle.jsp_index.specs.Keys.{row_keys}
-use Rattle.jsp_index.specs.Finding.{is_like}
+use Rattle.jsp_types.specs.declared.entry.Template.TheVariants.{Like}
+use Rattle.jsp_model.specs.declared.state.Row.{Row}
+use Rattle.jsp_table.specs.Finding.{AreNamed}
+use Rattle.jsp_index.specs.Finding.{number, is_like}
 use Rattle.jsp_index.specs.Passed.{is_open}
 use Rattle.jsp_index.proofs.Covering.{and_both, space_has}
+use Rattle.jsp_index.proofs.Shaped.{listed_from_first}
 use Rattle.jsp_index.proofs.keyed.KeyedRows.first_like.Goals as goal
 
 pub returns-in-Any : goal.returns-in-Any
@@ -15,9 +17,9 @@ returns-in-Any g c =
 
 pub returns-in-Some : goal.returns-in-Some
 returns-in-Some g c =
-    let classes = c.args.classes.now in
-    let space = c.args.space in
-    let kind = is_like classes space c.args.template.now in
-    let field = c.in-Some.field.now in
-    let have : HaveKey row_keys (λ seed. field_key seed space field.0 field.1) kind = subst (λ (t : Template). HaveKey row_keys (λ seed. field_key seed space field.0 field.1) (is_like classes space t)) (sym c.in-Like.is) (c.in-Some.ensures classes) in
-    c.first_listed-in-Some.ensures kind (is_open c.args.behind.now.unseen) (c.listed-listed-in-Some.ensures kind have) c.requires.had
+    let kind = is_like c.args.classes.now c.args.space c.args.template.now in
+    let rows = c.args.self.now in
+    let named = subst (λ (w : List Row). AreNamed number (is_like c.args.classes.now c.args.space (Like c.in-Like.like)) c.in-Some.numbers.now w) c.self.view_is (c.in-Some.ensures c.args.classes.now c.self.inside.rows c.self.invariant.1.1) in
+    let likes = subst (λ (t : Template). AreNamed number (is_like c.args.classes.now c.args.space t) c.in-Some.numbers.now rows) (sym c.in-Like.is) named in
+    let positive = subst (λ (w : List Row). AllByRecursion (λ (r : Row). 0 < r.number) w) c.self.view_is c.places.ensures.positive in
+    c.first_listed-in-Some.ensures kind (is_open c.args.behind.now.unseen) (listed_from_first kind (is_open c.args.behind.now.unseen) c.in-Some.numbers.now rows positive likes) c.requires.had

@@ -1,7 +1,0 @@
-use Rattle.std.proofs.Common.{take, option_copied}
-use Rattle.jsp_index.specs.Finding.{is_next, IsLeast}
-use Rattle.jsp_index.proofs.Narrowing.{is_like_of}
-use Rattle.jsp_index.proofs.keyed.KeyedRows.first_of_classes.Given as goal
-
-abbrev pub invariant-classes : goal.invariant-classes
-invariant-classes g l = IsLeast (is_next (g.P.Test.is_passed l.test) l.behind.number) (is_like_of l.classes l.space l.like (take l.class-index l.class-items)) l.self (option_copied l.first)

@@ -1,0 +1,5 @@
+use Rattle.jsp_index.proofs.Shaped.{none_learned}
+use Rattle.jsp_index.proofs.shape.Shape.forget.Goals as goal
+
+pub returns : goal.returns
+returns c seed r learned k is = absurd (none_learned c.args.self.now.space r learned)

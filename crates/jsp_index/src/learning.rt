@@ -1,0 +1,70 @@
+//! What is learned of rows where searches look through many of them.
+ghost use Rattle.std.specs.Prelude.{◌≡◌};
+
+use crate::HintedRows;
+use crate::keyed::KeyedRows;
+use crate::seeking::OfField;
+use crate::starts::Unseen;
+use jsp_table::Numbers;
+use jsp_types::{Text, Value};
+
+/// How many numbers a list has at least that a search had better not look through.
+pub(crate) const MANY: usize = 256;
+
+/// How many rows a search may well look at.
+const FEW: usize = 32;
+
+impl HintedRows {
+    /// Rows of the space were searched for by a template of these fields, and the last that was found
+    /// has this number. Where many had to be looked at, more is learned of how to find such ones sooner.
+    /// Where memory is refused it isn't.
+    pub fn learn(&mut self, space: u64, fields: &[(Text, Value)], last: Option<u64>)
+        ensures { self.new ≡ self.old }
+    {
+        if has_several_values(fields) {
+            self.rows.learn(space, fields, last);
+        }
+    }
+}
+
+impl KeyedRows {
+    fn learn(&mut self, space: u64, fields: &[(Text, Value)], last: Option<u64>)
+        ensures { self.new ≡ self.old }
+    {
+        if self.count_in(space) >= MANY && self.is_to_learn(space, fields, last) {
+            self.shapes
+                .learn(self.alloc, self.seed, &self.rows, space, fields);
+        }
+    }
+
+    /// Whether the list of each value is long, and what was found isn't near where a search through it
+    /// begins.
+    fn is_to_learn(&self, space: u64, fields: &[(Text, Value)], last: Option<u64>) -> bool {
+        fields.iter().all(|field| field.1.is_null() || self.is_far(space, field, last))
+    }
+
+    /// Whether the list of a value is long, and a number isn't near where a search through it begins.
+    fn is_far(&self, space: u64, field: &(Text, Value), number: Option<u64>) -> bool {
+        let listed = self.listed(&OfField { space, field }, Unseen::Held);
+        listed.numbers.len() >= MANY && !is_near(listed.numbers, listed.start, number)
+    }
+}
+
+/// Whether a number is one of the first few of a list behind a start, or stands before them.
+fn is_near(numbers: &Numbers, start: u64, number: Option<u64>) -> bool {
+    let Some(number) = number else {
+        return false;
+    };
+    let mut before = start;
+    for _count in 0..FEW {
+        match numbers.next_above(before) {
+            Some(next) if next < number => before = next,
+            _ => return true,
+        }
+    }
+    false
+}
+
+fn has_several_values(fields: &[(Text, Value)]) -> bool {
+    fields.iter().filter(|field| !field.1.is_null()).count() > 1
+}
