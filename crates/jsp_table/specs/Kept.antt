@@ -1,8 +1,9 @@
 -- The numbers of a list, however they are kept.
-use Rattle.std.specs.Prelude.{ℕ, List}
+use Rattle.std.specs.Prelude.{ℕ, List, [], ◌∷◌}
 use Rattle.jsp_table.specs.declared.numbers.Kept.{Kept}
-use Rattle.jsp_table.specs.declared.numbers.Kept.TheVariants.{Few, Many}
+use Rattle.jsp_table.specs.declared.numbers.Kept.TheVariants.{One, Few, Many}
 
 abbrev pub numbers_in : Kept → List ℕ
+numbers_in (One number) = number ∷ []
 numbers_in (Few numbers) = numbers.items
 numbers_in (Many numbers) = numbers.keys

@@ -1,8 +1,9 @@
 //! A few numbers in rising order, next to one another.
-ghost use Rattle.std.specs.Prelude.{◌≡◌, ◌≢◌, ◌<◌, ◌≤◌, ℕ, true, length, find, nat_lt, slice_index, OnOk};
+ghost use Rattle.std.specs.Prelude.{◌≡◌, ◌≢◌, ◌<◌, ◌≤◌, ℕ, true, length, find, nat_lt, slice_index, IfOk, OnOk};
 ghost use Rattle.jsp_table.specs.Numbers.{contains, AreIncreasing};
 
 use crate::NoMemory;
+use std::alloc::Global;
 
 /// Whether a number is one of them.
 pub(crate) fn are_few_with(numbers: &[u64], number: u64) -> bool
@@ -68,6 +69,18 @@ pub(crate) fn add_to_few(numbers: &mut Vec<u64>, number: u64) -> Result<(), NoMe
         numbers.insert(place, number)?;
     }
     Ok(())
+}
+
+/// These two.
+pub(crate) fn few_of_two(alloc: Global, one: u64, other: u64) -> Result<Vec<u64>, NoMemory>
+    ensures increasing { IfOk result (λ v. AreIncreasing v.items) }
+    ensures one { IfOk result (λ v. contains v.items one ≡ true) }
+    ensures other { IfOk result (λ v. contains v.items other ≡ true) }
+{
+    let mut few = Vec::new(alloc);
+    add_to_few(&mut few, one)?;
+    add_to_few(&mut few, other)?;
+    Ok(few)
 }
 
 /// Takes a number out, if it is there. Takes no memory.

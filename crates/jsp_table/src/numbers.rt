@@ -4,19 +4,21 @@ ghost use Rattle.jsp_table.specs.Numbers.{contains, AreIncreasing};
 ghost use Rattle.jsp_table.specs.Kept.{numbers_in};
 
 use crate::NoMemory;
-use crate::few::{add_to_few, are_few_with, next_of_few, remove_from_few};
+use crate::few::{add_to_few, are_few_with, few_of_two, next_of_few, remove_from_few};
 use crate::many::{add_to_many, are_many_with, many_of, next_of_many, remove_from_many};
 use std::alloc::Global;
 use std::collections::BTreeSet;
 use std::marker::Model;
+use std::slice;
 
 /// How many numbers stand next to one another at most.
 const MOST_FEW: usize = 256;
 
 /// Numbers in rising order, each once. Contracts see the list of them.
 ///
-/// Most lists are short, so a few numbers stand next to one another. Once there are more, they are a
-/// tree, so that one in the middle of very many goes as quickly as the first. What was a tree stays one.
+/// Most lists are of a single number, which takes no block of its own. A few numbers stand next to one
+/// another. Once there are more, they are a tree, so that one in the middle of very many goes as quickly as
+/// the first. What was a tree stays one.
 #[derive(Drop)]
 pub struct Numbers {
     alloc: Global,
@@ -26,6 +28,7 @@ pub struct Numbers {
 /// How numbers are kept.
 #[derive(Drop)]
 pub(crate) enum Kept {
+    One(u64),
     Few(Vec<u64>),
     Many(BTreeSet<u64>),
 }
@@ -59,6 +62,7 @@ impl Numbers {
         ensures increasing { AreIncreasing self.now }
     {
         match &self.kept {
+            Kept::One(_) => 1,
             Kept::Few(numbers) => numbers.len(),
             Kept::Many(numbers) => numbers.len(),
         }
@@ -76,6 +80,7 @@ impl Numbers {
         ensures { result ≡ contains self.now number }
     {
         match &self.kept {
+            Kept::One(one) => *one == number,
             Kept::Few(numbers) => are_few_with(numbers, number),
             Kept::Many(numbers) => are_many_with(numbers, number),
         }
@@ -86,6 +91,7 @@ impl Numbers {
         ensures { IfOk result (λ v. v.items ≡ self.now) }
     {
         let copies = match &self.kept {
+            Kept::One(one) => slice::from_ref(one).iter().copied().collect(alloc)?,
             Kept::Few(numbers) => numbers.iter().copied().collect(alloc)?,
             Kept::Many(numbers) => numbers.iter().copied().collect(alloc)?,
         };
@@ -98,6 +104,7 @@ impl Numbers {
         ensures increasing { AreIncreasing self.now }
     {
         match &self.kept {
+            Kept::One(one) => next_of_few(slice::from_ref(one), number),
             Kept::Few(numbers) => next_of_few(numbers, number),
             Kept::Many(numbers) => next_of_many(numbers, number),
         }
@@ -117,17 +124,14 @@ impl Numbers {
         ensures keeps { (m : ℕ) → contains self.old m ≡ true → contains self.new m ≡ true }
     {
         make_way(self.alloc, &mut self.kept)?;
-        add_to(&mut self.kept, number)
+        add_to(self.alloc, &mut self.kept, number)
     }
 
     /// Takes a number out, if it is there. Takes no memory.
     pub fn remove(&mut self, number: u64)
         ensures { (m : ℕ) → m ≢ number → contains self.old m ≡ true → contains self.new m ≡ true }
     {
-        match &mut self.kept {
-            Kept::Few(numbers) => remove_from_few(numbers, number),
-            Kept::Many(numbers) => remove_from_many(numbers, number),
-        }
+        remove_from(self.alloc, &mut self.kept, number);
     }
 }
 
@@ -147,14 +151,44 @@ fn make_way(alloc: Global, kept: &mut Kept) -> Result<(), NoMemory>
 }
 
 /// Adds a number, if it isn't there.
-fn add_to(kept: &mut Kept, number: u64) -> Result<(), NoMemory>
+fn add_to(alloc: Global, kept: &mut Kept, number: u64) -> Result<(), NoMemory>
     requires { AreIncreasing (numbers_in kept.old) }
     ensures increasing { AreIncreasing (numbers_in kept.new) }
     ensures ok { OnOk result (contains (numbers_in kept.new) number ≡ true) }
     ensures keeps { (m : ℕ) → contains (numbers_in kept.old) m ≡ true → contains (numbers_in kept.new) m ≡ true }
 {
     match kept {
-        Kept::Few(numbers) => add_to_few(numbers, number),
+        Kept::One(one) => {
+            if *one != number {
+                let few = few_of_two(alloc, *one, number)?;
+                *kept = Kept::Few(few);
+            }
+            Ok(())
+        }
+        Kept::Few(numbers) => {
+            if numbers.is_empty() {
+                *kept = Kept::One(number);
+                return Ok(());
+            }
+            add_to_few(numbers, number)
+        }
         Kept::Many(numbers) => add_to_many(numbers, number),
+    }
+}
+
+/// Takes a number out, if it is there. Takes no memory.
+fn remove_from(alloc: Global, kept: &mut Kept, number: u64)
+    requires { AreIncreasing (numbers_in kept.old) }
+    ensures increasing { AreIncreasing (numbers_in kept.new) }
+    ensures keeps { (m : ℕ) → m ≢ number → contains (numbers_in kept.old) m ≡ true → contains (numbers_in kept.new) m ≡ true }
+{
+    match kept {
+        Kept::One(one) => {
+            if *one == number {
+                *kept = Kept::Few(Vec::new(alloc));
+            }
+        }
+        Kept::Few(numbers) => remove_from_few(numbers, number),
+        Kept::Many(numbers) => remove_from_many(numbers, number),
     }
 }

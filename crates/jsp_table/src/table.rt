@@ -13,6 +13,7 @@ use std::alloc::Global;
 use std::collections::BTreeSet;
 use std::marker::{Model, PhantomData};
 use std::ops::Bound;
+use std::slice;
 
 /// How things are numbered.
 pub trait Numbering<T> {
@@ -362,6 +363,7 @@ fn first_named<'a, T, N: Numbering<T>, P: Test<T>>(
     ensures { option_copied result ≡ find (is_hit N.number_of (P.is_passed test.now) numbers.now after) table.now }
 {
     match numbers.kept() {
+        Kept::One(one) => first_of_few(table, slice::from_ref(one), after, test),
         Kept::Few(few) => first_of_few(table, few, after, test),
         Kept::Many(many) => first_of_many(table, many, after, test),
     }
