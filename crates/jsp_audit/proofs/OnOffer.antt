@@ -1,5 +1,5 @@
 -- After a step each row that a waiting request may be given is on offer: it was before, or the step let it go, or it is new.
-use Rattle.std.proofs.Common.{◌≡◌, ◌≢◌, refl, sym, ap, ◌∙◌, subst, ℕ, ◌≤◌, ◌<◌, ◌⊎◌, inl, inr, List, [], ◌∷◌, map, filter, length, Bool, true, false, not, cond, ◌||◌, ◌==◌, Option, None, nat_lt, true≢false, eqb-true, arith}
+use Rattle.std.proofs.Common.{◌≡◌, ◌≢◌, refl, sym, ap, ◌∙◌, subst, ℕ, ◌≤◌, ◌<◌, ◌⊎◌, inl, inr, List, [], ◌∷◌, map, filter, length, Bool, true, false, not, cond, ◌||◌, ◌&&◌, if◌then◌else◌, ◌==◌, Option, None, nat_lt, true≢false, eqb-true, arith}
 use Rattle.std.specs.Prelude.{Result, Ok, Err, OnOk, OnErr}
 use Rattle.std.specs.List.{list_all}
 use Rattle.std.proofs.lemmas.Bool.{and_parts, and_from, ltb-true, false_from_ne_true}
@@ -8,15 +8,17 @@ use Rattle.jsp_model.specs.declared.state.Row.{Row}
 use Rattle.jsp_model.specs.declared.state.Blocked.{Blocked}
 use Rattle.jsp_model.specs.declared.step.Step.{Step}
 use Rattle.jsp_model.specs.Lookup.{contains}
-use Rattle.jsp_model.specs.Sight.{is_available}
+use Rattle.jsp_model.specs.Sight.{is_take, wants, takeable, readable, is_available}
 use Rattle.jsp_model.specs.Quiet.{must_wait}
 use Rattle.jsp_model.specs.Changes.{close}
 use Rattle.jsp_model.specs.Steps.{next}
 use Rattle.jsp_model.specs.Limits.{IsWithinLimits, are_rising}
 use Rattle.jsp_laws.proofs.Lists.{Each, Has, each_by_all, each_has, each_itself, each_weaker, all_kept}
-use Rattle.jsp_quiet.specs.Freeing.{frees, frees_any, WasThere}
+use Rattle.jsp_quiet.specs.Freeing.{frees, frees_any, AsksAlike, WasThere}
+use Rattle.jsp_quiet.specs.Steady.{IsSteady}
 use Rattle.jsp_quiet.proofs.Waking.{waiting_comes}
 use Rattle.jsp_quiet.proofs.Freeing.{free_comes}
+use Rattle.jsp_quiet.proofs.Declaring.{declaring_stays}
 use Rattle.jsp_core.specs.Offering.{is_offered, are_offered}
 use Rattle.jsp_state.specs.Outboxes.{after_handing}
 
@@ -62,9 +64,10 @@ needs_not st b r h e = let some = given_some st b st.rows r h e in rw some refl
 -- ---- over a step
 
 -- what the offers before it and after it are, and what is added between
-pub record Offered (st : State) (act : Step) (before within after : Option (List ℕ)) : Type 0 where
+pub record Offered (st : State) (act : Step) (steady : Bool) (before within after : Option (List ℕ)) : Type 0 where
   pub old : are_offered before st ≡ true
-  pub any : frees_any st act ≡ true → within ≡ None
+  pub any : frees_any st act ≡ true → steady ≡ false → within ≡ None
+  pub known : steady ≡ true → IsSteady st
   pub freed : st.blocked ≢ [] → list_all (λ r. not (frees st act r) || is_offered within r.number) st.rows ≡ true
   pub keeps : (n : ℕ) → is_offered before n ≡ true → is_offered within n ≡ true
   pub new : (n : ℕ) → st.next_number ≤ n → n < (next st act).next_number → is_offered after n ≡ true
@@ -87,15 +90,36 @@ was_offered st o b r h in_blocked in_rows e =
     let all = one_of_all (λ b. list_all (λ r. not (is_available st b r) || is_offered o r.number) st.rows) st.blocked b h in_blocked in
     one_that (is_available st b r) (is_offered o r.number) (one_of_all (λ r. not (is_available st b r) || is_offered o r.number) st.rows r all in_rows) e
 
-pub offered_after : (st : State) (act : Step) (before within after : Option (List ℕ)) → IsWithinLimits (next st act) → Offered st act before within after → are_offered after (next st act) ≡ true
-offered_after st act before within after limits o =
+-- where the same requests want the same rows, the same rows are for them
+offered_alike : (st after : State) (o : Option (List ℕ)) → AsksAlike st after → are_offered o st ≡ true → are_offered o after ≡ true
+offered_alike st after o k h = all_that _ after.blocked (λ b in_blocked. all_that _ after.rows (λ r in_rows. each b r in_blocked in_rows (is_available after b r) refl))
+  where
+    each : (b : Blocked) (r : Row) → Has after.blocked b → Has after.rows r → (d : Bool) → is_available after b r ≡ d → (not d || is_offered o r.number) ≡ true
+    each b r in_blocked in_rows true e =
+        let there : Has st.rows r = subst (λ rows. Has rows r) k.rows in_rows in
+        let same : wants after b r ≡ wants st b r = each_has (λ (row : Row). wants after b row ≡ wants st b row) st.rows r (k.wants b) there in
+        was_offered st o b r h (subst (λ bs. Has bs b) k.blocked in_blocked) there
+        (sym (ap (λ w. w && (if is_take b.form then takeable b.transaction r else readable b.transaction r)) same) ∙ e)
+    each b r in_blocked in_rows false e = refl
+
+more_offered : (st : State) (o p : Option (List ℕ)) → ((n : ℕ) → is_offered o n ≡ true → is_offered p n ≡ true) → are_offered o st ≡ true → are_offered p st ≡ true
+more_offered st o p more h =
+    all_that _ st.blocked (λ b in_blocked. all_that _ st.rows (λ r in_rows. go r (is_available st b r) (one_of_all (λ r. not (is_available st b r) || is_offered o r.number) st.rows r (one_of_all _ st.blocked b h in_blocked) in_rows)))
+  where
+    go : (r : Row) (d : Bool) → (not d || is_offered o r.number) ≡ true → (not d || is_offered p r.number) ≡ true
+    go r true k = more r.number k
+    go r false k = refl
+
+-- but for a declaration from a steady state
+offered_otherwise : (st : State) (act : Step) (steady : Bool) (before within after : Option (List ℕ)) → IsWithinLimits (next st act) → Offered st act steady before within after → (frees_any st act ≡ true → within ≡ None) → are_offered after (next st act) ≡ true
+offered_otherwise st act steady before within after limits o opened =
     all_that _ (next st act).blocked (λ b in_blocked. all_that _ (next st act).rows (λ r in_rows. each b r in_blocked in_rows (is_available (next st act) b r) refl))
   where
     below : (r : Row) → Has (next st act).rows r → r.number < (next st act).next_number
     below r h = each_has (λ (r : Row). r.number < (next st act).next_number) (next st act).rows r (below_top (λ (r : Row). r.number) 0 (next st act).next_number (next st act).rows limits.rows.rising).1 h
 
     some : (b : Blocked) (r : Row) → Has (next st act).blocked b → Has (next st act).rows r → is_available (next st act) b r ≡ true → (d : Bool) → frees_any st act ≡ d → is_offered after r.number ≡ true
-    some b r in_blocked in_rows e true any = o.stays r.number (subst (λ w. is_offered w r.number ≡ true) (sym (o.any any)) refl)
+    some b r in_blocked in_rows e true any = o.stays r.number (subst (λ w. is_offered w r.number ≡ true) (sym (opened any)) refl)
     some b r in_blocked in_rows e false none = came (free_comes st act b r none in_rows e)
       where
         there : (w : WasThere st act b r) → (frees st act w.was ≡ true) ⊎ (is_available st b w.was ≡ true) → Has st.blocked b ⊎ ((st.next_number ≤ b.number) × (must_wait (next st act) b ≡ true)) → is_offered after w.was.number ≡ true
@@ -111,24 +135,24 @@ offered_after st act before within after limits o =
     each b r in_blocked in_rows true e = some b r in_blocked in_rows e (frees_any st act) refl
     each b r in_blocked in_rows false e = refl
 
+pub offered_after : (st : State) (act : Step) (steady : Bool) (before within after : Option (List ℕ)) → IsWithinLimits (next st act) → Offered st act steady before within after → are_offered after (next st act) ≡ true
+offered_after st act true before within after limits o = by_declaring (frees_any st act) refl
+  where
+    by_declaring : (d : Bool) → frees_any st act ≡ d → are_offered after (next st act) ≡ true
+    by_declaring true e = more_offered (next st act) before after (λ n h. o.stays n (o.keeps n h)) (offered_alike st (next st act) before (declaring_stays st act (o.known refl) e) o.old)
+    by_declaring false e = offered_otherwise st act true before within after limits o (λ k. absurd (true≢false (sym k ∙ e)))
+offered_after st act false before within after limits o = offered_otherwise st act false before within after limits o (λ e. o.any e refl)
+
 -- ---- whole or not at all
 
-more_offered : (st : State) (o p : Option (List ℕ)) → ((n : ℕ) → is_offered o n ≡ true → is_offered p n ≡ true) → are_offered o st ≡ true → are_offered p st ≡ true
-more_offered st o p more h =
-    all_that _ st.blocked (λ b in_blocked. all_that _ st.rows (λ r in_rows. go r (is_available st b r) (one_of_all (λ r. not (is_available st b r) || is_offered o r.number) st.rows r (one_of_all _ st.blocked b h in_blocked) in_rows)))
-  where
-    go : (r : Row) (d : Bool) → (not d || is_offered o r.number) ≡ true → (not d || is_offered p r.number) ≡ true
-    go r true k = more r.number k
-    go r false k = refl
-
-pub offered_either : {T E : Type 0} (result : Result T E) (st : State) (act : Step) (new : State) (before within after : Option (List ℕ)) → IsWithinLimits new → OnOk result (new ≡ next st act) → OnErr result (new ≡ st)
-    → are_offered before st ≡ true → (frees_any st act ≡ true → within ≡ None) → (st.blocked ≢ [] → list_all (λ r. not (frees st act r) || is_offered within r.number) st.rows ≡ true)
+pub offered_either : {T E : Type 0} (result : Result T E) (st : State) (act : Step) (new : State) (steady : Bool) (before within after : Option (List ℕ)) → (steady ≡ true → IsSteady st) → IsWithinLimits new → OnOk result (new ≡ next st act) → OnErr result (new ≡ st)
+    → are_offered before st ≡ true → (frees_any st act ≡ true → steady ≡ false → within ≡ None) → (st.blocked ≢ [] → list_all (λ r. not (frees st act r) || is_offered within r.number) st.rows ≡ true)
     → ((n : ℕ) → is_offered before n ≡ true → is_offered within n ≡ true) → ((n : ℕ) → st.next_number ≤ n → n < new.next_number → is_offered after n ≡ true) → ((n : ℕ) → is_offered within n ≡ true → is_offered after n ≡ true)
     → are_offered after new ≡ true
-offered_either (Ok t) st act new before within after limits ok err old any freed keeps added stays =
+offered_either (Ok t) st act new steady before within after known limits ok err old any freed keeps added stays =
     subst (λ w. are_offered after w ≡ true) (sym ok)
-    (offered_after st act before within after (subst IsWithinLimits ok limits) (record { old = old; any = any; freed = freed; keeps = keeps; new = λ n l h. added n l (subst (λ w. n < w.next_number) (sym ok) h); stays = stays }))
-offered_either (Err e) st act new before within after limits ok err old any freed keeps added stays =
+    (offered_after st act steady before within after (subst IsWithinLimits ok limits) (record { old = old; any = any; known = known; freed = freed; keeps = keeps; new = λ n l h. added n l (subst (λ w. n < w.next_number) (sym ok) h); stays = stays }))
+offered_either (Err e) st act new steady before within after known limits ok err old any freed keeps added stays =
     subst (λ w. are_offered after w ≡ true) (sym err) (more_offered st before after (λ n h. stays n (keeps n h)) old)
 
 -- ---- rows that pass a test are put on offer

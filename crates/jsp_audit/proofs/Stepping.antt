@@ -14,6 +14,8 @@ use Rattle.jsp_model.specs.Steps.{is_legal, change, next}
 use Rattle.jsp_model.specs.Limits.{IsWithinLimits}
 use Rattle.jsp_model.proofs.Outboxes.{is_hand_out}
 use Rattle.jsp_model.proofs.Apart.{next_posted, next_silent, next_handed}
+use Rattle.jsp_quiet.specs.Steady.{IsSteady}
+use Rattle.jsp_quiet.proofs.Steady.{steady_step}
 use Rattle.jsp_limits.proofs.Outboxes.{outboxes_after}
 use Rattle.jsp_limits.proofs.Steps.{limits_stay}
 use Rattle.jsp_state.specs.Outboxes.{after_handing}
@@ -65,6 +67,18 @@ hand_out_parts st s n h =
     let parts = and_parts (nat_le 1 n) (nat_le n (length (outbox_of st s))) h in
     (leb-true 1 n parts.0, leb-true n (length (outbox_of st s)) parts.1)
 
+-- ---- a steady state
+
+pub steady_shut : (st : State) (s : ℕ) → is_open st s ≡ true → IsSteady st → IsSteady (close st s)
+unfolding is_legal
+steady_shut st s is h = subst IsSteady (sym (shut_is st s)) (steady_step st (step.Shut s) is h)
+
+pub steady_handed : (st : State) (s n : ℕ) → 1 ≤ n → n ≤ length (outbox_of st s) → IsSteady st → IsSteady (after_handing st s n)
+unfolding is_legal
+steady_handed st s n some there h =
+    subst IsSteady (next_handed st s n)
+    (steady_step st (step.HandOut s n) (and_from (nat_le 1 n) (nat_le n (length (outbox_of st s))) (le-leb 1 n some) (le-leb n (length (outbox_of st s)) there)) h)
+
 -- ---- what is heard
 
 pub heard_is : (st : State) (x : Step) (all heard : List Saying) → all ≡ all_said st x → heard ≡ filter (λ a. is_open st a.0) all → heard ≡ said st x
@@ -72,6 +86,10 @@ unfolding said
 heard_is st x all heard says hears = hears ∙ ap (filter (λ a. is_open st a.0)) says
 
 -- ---- whole or not at all
+
+pub steady_either : {T E : Type 0} (r : Result T E) (old now new : State) → (IsSteady old → IsSteady now) → OnOk r (new ≡ now) → OnErr r (new ≡ old) → IsSteady old → IsSteady new
+steady_either (Ok t) old now new stays ok err h = subst IsSteady (sym ok) (stays h)
+steady_either (Err e) old now new stays ok err h = subst IsSteady (sym err) h
 
 pub limits_either : {T E : Type 0} (r : Result T E) (old now new : State) → IsWithinLimits old → IsWithinLimits now → OnOk r (new ≡ now) → OnErr r (new ≡ old) → IsWithinLimits new
 limits_either (Ok t) old now new before after ok err = subst IsWithinLimits (sym ok) after

@@ -11,7 +11,7 @@ use Rattle.jsp_model.specs.declared.state.Row.{Row}
 use Rattle.jsp_model.specs.declared.state.Blocked.{Blocked}
 use Rattle.jsp_model.specs.declared.step.Step.{Step}
 use Rattle.jsp_model.specs.Lookup.{contains, named}
-use Rattle.jsp_model.specs.Sight.{is_if, wants, is_in_conflict, has_conflict}
+use Rattle.jsp_model.specs.Sight.{is_take, is_if, wants, conflicts, is_in_conflict, has_conflict}
 use Rattle.jsp_model.specs.Quiet.{must_wait}
 use Rattle.jsp_model.specs.Changes.{close}
 use Rattle.jsp_model.specs.Steps.{is_legal, next}
@@ -20,7 +20,10 @@ use Rattle.jsp_laws.proofs.Lists.{Each, Has, each_any, each_has, each_itself, ea
 use Rattle.jsp_laws.proofs.Rising.{Rising}
 use Rattle.jsp_laws.proofs.Sound.{row_number}
 use Rattle.jsp_quiet.specs.Waking.{is_marked}
-use Rattle.jsp_quiet.specs.Freeing.{frees, ends, ends_any, ends_conflict}
+use Rattle.jsp_quiet.specs.Steady.{IsSteady}
+use Rattle.jsp_quiet.specs.Freeing.{frees, frees_any, AsksAlike, ends, ends_any, ends_conflict}
+use Rattle.jsp_quiet.proofs.Lists.{any_alike}
+use Rattle.jsp_quiet.proofs.Declaring.{declaring_stays}
 use Rattle.jsp_quiet.proofs.Waking.{waiting_comes}
 use Rattle.jsp_quiet.proofs.Conflicts.{conflict_stays}
 use Rattle.jsp_sight.specs.Rows.{wanted, unmarked}
@@ -80,9 +83,9 @@ not_both true true false e i k = absurd (true≢false (sym e))
 not_both false true false e i k = absurd (true≢false (sym e))
 not_both n false c e i k = absurd (true≢false (sym i))
 
-pub stirred_after : (st : State) (act : Step) (before within : Option (List ℕ)) → Rising row_number st.rows → is_legal st act ≡ true → are_stirred before st ≡ true → (ends_any st act ≡ true → within ≡ None)
+stirred_otherwise : (st : State) (act : Step) (before within : Option (List ℕ)) → Rising row_number st.rows → is_legal st act ≡ true → are_stirred before st ≡ true → (ends_any st act ≡ true → within ≡ None)
     → list_all (λ r. not (ends_conflict st act r) || are_named_for st within r) st.rows ≡ true → ((n : ℕ) → is_offered before n ≡ true → is_offered within n ≡ true) → are_stirred within (next st act) ≡ true
-stirred_after st act before within rise legal old any named keeps =
+stirred_otherwise st act before within rise legal old any named keeps =
     all_that _ (next st act).blocked (λ b in_blocked. each b in_blocked (is_if b.form) refl (has_conflict (next st act) b) refl)
   where
     held_up : (b : Blocked) → is_if b.form ≡ true → has_conflict (next st act) b ≡ false → Has st.blocked b → ends_any st act ≡ false → has_conflict st b ≡ true → is_offered within b.number ≡ true
@@ -116,8 +119,6 @@ stirred_after st act before within rise legal old any named keeps =
     each b h true e true k = refl
     each b h true e false k = came b e k (waiting_comes st act b h) (ends_any st act) refl
 
--- ---- whole or not at all
-
 more_stirred : (st : State) (o p : Option (List ℕ)) → ((n : ℕ) → is_offered o n ≡ true → is_offered p n ≡ true) → are_stirred o st ≡ true → are_stirred p st ≡ true
 more_stirred st o p more h = all_that _ st.blocked (λ b in_blocked. go b (is_if b.form) (has_conflict st b) (one_of_all _ st.blocked b h in_blocked))
   where
@@ -126,12 +127,37 @@ more_stirred st o p more h = all_that _ st.blocked (λ b in_blocked. go b (is_if
     go b true false k = more b.number k
     go b false c k = refl
 
-pub stirred_either : {T E : Type 0} (result : Result T E) (st : State) (act : Step) (new : State) (before within : Option (List ℕ)) → OnOk result (new ≡ next st act) → OnErr result (new ≡ st)
-    → are_rising 0 st.next_number (map row_number st.rows) ≡ true → is_legal st act ≡ true → are_stirred before st ≡ true → (ends_any st act ≡ true → within ≡ None)
+-- where the same requests want the same rows, the same rows hold them up
+stirred_alike : (st after : State) (o : Option (List ℕ)) → AsksAlike st after → are_stirred o st ≡ true → are_stirred o after ≡ true
+stirred_alike st after o k h =
+    all_that _ after.blocked
+    (λ b in_blocked. ap (λ d. not (is_if b.form) || (d || is_offered o b.number)) (same b) ∙ one_of_all (λ b. not (is_if b.form) || (has_conflict st b || is_offered o b.number)) st.blocked b h (subst (λ bs. Has bs b) k.blocked in_blocked))
+  where
+    same : (b : Blocked) → has_conflict after b ≡ has_conflict st b
+    same b =
+        ap (list_any (is_in_conflict after b)) k.rows
+        ∙ any_alike (is_in_conflict after b) (is_in_conflict st b) st.rows
+        (each_weaker (λ (row : Row). wants after b row ≡ wants st b row) (λ (row : Row). is_in_conflict after b row ≡ is_in_conflict st b row) (λ row e. ap (λ w. w && conflicts (is_take b.form) b.transaction row) e) st.rows (k.wants b))
+
+pub stirred_after : (st : State) (act : Step) (steady : Bool) (before within : Option (List ℕ)) → (steady ≡ true → IsSteady st) → Rising row_number st.rows → is_legal st act ≡ true → are_stirred before st ≡ true
+    → (ends_any st act ≡ true → (steady && frees_any st act) ≡ false → within ≡ None) → list_all (λ r. not (ends_conflict st act r) || are_named_for st within r) st.rows ≡ true → ((n : ℕ) → is_offered before n ≡ true → is_offered within n ≡ true)
+    → are_stirred within (next st act) ≡ true
+stirred_after st act steady before within known rise legal old any named keeps = go (steady && frees_any st act) refl
+  where
+    go : (d : Bool) → (steady && frees_any st act) ≡ d → are_stirred within (next st act) ≡ true
+    go true e =
+        let both = and_parts steady (frees_any st act) e in
+        more_stirred (next st act) before within keeps (stirred_alike st (next st act) before (declaring_stays st act (known both.0) both.1) old)
+    go false e = stirred_otherwise st act before within rise legal old (λ k. any k e) named keeps
+
+-- ---- whole or not at all
+
+pub stirred_either : {T E : Type 0} (result : Result T E) (st : State) (act : Step) (new : State) (steady : Bool) (before within : Option (List ℕ)) → (steady ≡ true → IsSteady st) → OnOk result (new ≡ next st act) → OnErr result (new ≡ st)
+    → are_rising 0 st.next_number (map row_number st.rows) ≡ true → is_legal st act ≡ true → are_stirred before st ≡ true → (ends_any st act ≡ true → (steady && frees_any st act) ≡ false → within ≡ None)
     → list_all (λ r. not (ends_conflict st act r) || are_named_for st within r) st.rows ≡ true → ((n : ℕ) → is_offered before n ≡ true → is_offered within n ≡ true) → are_stirred within new ≡ true
-stirred_either (Ok t) st act new before within ok err up legal old any named keeps =
-    subst (λ w. are_stirred within w ≡ true) (sym ok) (stirred_after st act before within (rising_from row_number 0 st.next_number st.rows up) legal old any named keeps)
-stirred_either (Err e) st act new before within ok err up legal old any named keeps = subst (λ w. are_stirred within w ≡ true) (sym err) (more_stirred st before within keeps old)
+stirred_either (Ok t) st act new steady before within known ok err up legal old any named keeps =
+    subst (λ w. are_stirred within w ≡ true) (sym ok) (stirred_after st act steady before within known (rising_from row_number 0 st.next_number st.rows up) legal old any named keeps)
+stirred_either (Err e) st act new steady before within known ok err up legal old any named keeps = subst (λ w. are_stirred within w ≡ true) (sym err) (more_stirred st before within keeps old)
 
 -- ---- a session that is closed, and answers that are handed out
 

@@ -76,8 +76,9 @@ fn make_and_offer(
     keeps_its_request(step);
     let sayings = said_judged(alloc, image, step, refused)?;
     let first_new = next_number(&image.state);
-    offer_let_go(alloc, &image.state, &mut image.offers, step);
-    stir(alloc, &image.state, &mut image.stirred, step);
+    let is_steady = image.is_steady;
+    offer_let_go(alloc, &image.state, &mut image.offers, step, is_steady);
+    stir(alloc, &image.state, &mut image.stirred, step, is_steady);
     let made = make(alloc, &mut image.state, step, refused, sayings);
     let past_new = next_number(&image.state);
     image.offers.add_between(first_new, past_new);

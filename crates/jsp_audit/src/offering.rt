@@ -1,5 +1,5 @@
 //! What a step puts on offer to the requests that wait.
-ghost use Rattle.std.specs.Prelude.{◌≡◌, ◌≢◌, ◌||◌, ℕ, [], true, false, not, None};
+ghost use Rattle.std.specs.Prelude.{◌≡◌, ◌≢◌, ◌&&◌, ◌||◌, ℕ, [], true, false, not, None};
 ghost use Rattle.std.specs.List.{list_all};
 ghost use Rattle.std.specs.Option.{option_map_or};
 ghost use Rattle.jsp_core.specs.Offering.{is_offered};
@@ -32,12 +32,18 @@ pub(crate) struct Unmarking {
 /// Offers the rows that a step to come may let go: those that bear marks of the transaction whose
 /// marks it takes away. Where it can't be said which these are, any row is on offer. Where nobody
 /// waits, none need be.
-pub(crate) fn offer_let_go(alloc: Global, state: &Core, offers: &mut Offers, step: &Step)
-    ensures any { lets_any_go state.now step.now ≡ true → offers.new ≡ None }
+pub(crate) fn offer_let_go(
+    alloc: Global,
+    state: &Core,
+    offers: &mut Offers,
+    step: &Step,
+    is_steady: bool,
+)
+    ensures any { lets_any_go state.now step.now ≡ true → is_steady ≡ false → offers.new ≡ None }
     ensures freed { state.now.blocked ≢ [] → list_all (λ r. not (frees state.now step.now r) || is_offered offers.new r.number) state.now.rows ≡ true }
     ensures keeps { (n : ℕ) → is_offered offers.old n ≡ true → is_offered offers.new n ≡ true }
 {
-    if frees_any(state, step) {
+    if may_free_any(state, step, is_steady) {
         offers.open();
     } else if !state.blocked.is_known_empty() {
         offer_marked(alloc, state, offers, cancelled_by(step));
@@ -118,8 +124,15 @@ fn offer_held(alloc: Global, state: &Core, offers: &mut Offers, unmarking: Unmar
     }
 }
 
+/// Whether a step may let any row go, where it isn't known that the state is steady.
+pub(crate) fn may_free_any(state: &Core, step: &Step, is_steady: bool) -> bool
+    ensures { result ≡ (not is_steady && lets_any_go state.now step.now) }
+{
+    !is_steady && frees_any(state, step)
+}
+
 /// Whether a step may let any row go: a class is declared that wasn't before.
-pub(crate) fn frees_any(state: &Core, step: &Step) -> bool
+fn frees_any(state: &Core, step: &Step) -> bool
     ensures { result ≡ lets_any_go state.now step.now }
 {
     match step {

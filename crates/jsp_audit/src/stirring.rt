@@ -1,6 +1,6 @@
 //! Which requests a step stirs, of those that wait for a conflict to end: whoever asks for a row that the
 //! step may let go or take away.
-ghost use Rattle.std.specs.Prelude.{◌≡◌, ◌==◌, ◌||◌, ℕ, true, false, not, map, find, option_map, option_copied, IfOk, IsTrue, None};
+ghost use Rattle.std.specs.Prelude.{◌≡◌, ◌==◌, ◌&&◌, ◌||◌, ℕ, true, false, not, map, find, option_map, option_copied, IfOk, IsTrue, None};
 ghost use Rattle.std.specs.List.{list_all};
 ghost use Rattle.std.specs.Option.{option_map_or};
 ghost use Rattle.jsp_model.specs.declared.state.Row.{Row as OfRow};
@@ -16,7 +16,7 @@ ghost use Rattle.jsp_audit.specs.Unmarking.{is_unmarked, cancelled, ask_cancelle
 ghost use Rattle.jsp_audit.specs.Stirring.{are_named_for};
 
 use crate::offering::{
-    Unmarking, are_many, cancelled_by, frees_any, unmarked_by, unmarked_everywhere,
+    Unmarking, are_many, cancelled_by, may_free_any, unmarked_by, unmarked_everywhere,
 };
 use jsp_core::{Core, Offers};
 use jsp_model::{Row, Step};
@@ -27,24 +27,25 @@ use std::alloc::Global;
 
 /// Stirs the requests that wait for a conflict to end and ask for a row that a step to come may let go or
 /// take away. Where it can't be said which rows these are, all are stirred.
-pub(crate) fn stir(alloc: Global, state: &Core, stirred: &mut Offers, step: &Step)
+pub(crate) fn stir(alloc: Global, state: &Core, stirred: &mut Offers, step: &Step, is_steady: bool)
     requires { IsTrue (are_rising 0 state.now.next_number (map (λ r. r.number) state.now.rows)) }
-    ensures any { may_end_any state.now step.now ≡ true → stirred.new ≡ None }
+    ensures any { may_end_any state.now step.now ≡ true → (is_steady && lets_any_go state.now step.now) ≡ false → stirred.new ≡ None }
     ensures stirred { list_all (λ r. not (ends_conflict state.now step.now r) || are_named_for state.now stirred.new r) state.now.rows ≡ true }
     ensures keeps { (n : ℕ) → is_offered stirred.old n ≡ true → is_offered stirred.new n ≡ true }
 {
-    if ends_any(state, step) {
+    if ends_any(state, step, is_steady) {
         stirred.open();
     } else if !state.blocked.are_all_patient() {
         stir_let_go(alloc, state, stirred, step);
     }
 }
 
-/// Whether a step may end any conflict: a class is declared that wasn't before, or a space is reset.
-fn ends_any(state: &Core, step: &Step) -> bool
-    ensures { result ≡ may_end_any state.now step.now }
+/// Whether a step may end any conflict: a space is reset, or, where it isn't known that the state is steady,
+/// a class is declared that wasn't before.
+fn ends_any(state: &Core, step: &Step, is_steady: bool) -> bool
+    ensures { may_end_any state.now step.now ≡ true → (is_steady && lets_any_go state.now step.now) ≡ false → result ≡ true }
 {
-    resets(step) || frees_any(state, step)
+    resets(step) || may_free_any(state, step, is_steady)
 }
 
 fn resets(step: &Step) -> bool

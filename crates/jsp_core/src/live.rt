@@ -1,6 +1,7 @@
 //! A state that is worked on, with the limits of the profile in its type.
 ghost use Rattle.std.specs.Prelude.{◌≡◌, IfOk};
 ghost use Rattle.jsp_model.specs.Limits.{IsWithinLimits};
+ghost use Rattle.jsp_quiet.specs.Steady.{IsSteady};
 
 use crate::{Core, Offers};
 use jsp_model::Image;
@@ -11,27 +12,30 @@ use std::marker::Model;
 
 /// A state within its limits, to be searched and changed. Contracts see it as the state. No waiting
 /// request may be given a row that isn't on offer, and those that wait for a conflict to end, and for which
-/// there is none, are among those that are stirred.
+/// there is none, are among those that are stirred. Where it says so the state is steady, as each is to
+/// which a run from an empty one leads: then a declaration changes nothing for those who wait.
 ///
-/// Whoever changes the state shows all three again.
+/// Whoever changes the state shows all four again.
 #[derive(Drop)]
 pub struct LiveImage {
     pub state: Core,
     pub offers: Offers,
     pub stirred: Offers,
+    pub is_steady: bool,
 }
 
 impl Model for LiveImage {
     ghost use Rattle.jsp_model.specs.declared.state.State.{State};
     ghost use Rattle.jsp_model.specs.Limits.{IsWithinLimits};
-    ghost use Rattle.std.specs.Prelude.{IsTrue};
+    ghost use Rattle.jsp_quiet.specs.Steady.{IsSteady};
+    ghost use Rattle.std.specs.Prelude.{◌≡◌, true, IsTrue};
     ghost use Rattle.jsp_core.specs.Offering.{are_offered, are_stirred};
 
     ghost Value = { State };
 
     ghost view = { λ a. a.state };
 
-    ghost invariant = { λ a. IsWithinLimits a.state × IsTrue (are_offered a.offers a.state) × IsTrue (are_stirred a.stirred a.state) };
+    ghost invariant = { λ a. IsWithinLimits a.state × IsTrue (are_offered a.offers a.state) × IsTrue (are_stirred a.stirred a.state) × (a.is_steady ≡ true → IsSteady a.state) };
 }
 
 impl LiveImage {
@@ -45,7 +49,21 @@ impl LiveImage {
             state,
             offers: Offers::any(alloc),
             stirred: Offers::any(alloc),
+            is_steady: false,
         })
+    }
+
+    /// The same, of which it is known that it is steady.
+    pub fn known_steady(self) -> LiveImage
+        requires { IsSteady self }
+        ensures { result ≡ self }
+    {
+        LiveImage {
+            state: self.state,
+            offers: self.offers,
+            stirred: self.stirred,
+            is_steady: true,
+        }
     }
 
     /// The image of it, kept plain.

@@ -82,7 +82,7 @@ impl<K> StateHouse<K> {
         ensures debt { IfOk result (λ h. h.debt.items ≡ []) }
         ensures bound { IfOk result (λ h. h.bound ≡ None) }
     {
-        let image = LiveImage::of(alloc, empty_image(alloc, config)?, keeping)?;
+        let image = LiveImage::of(alloc, empty_image(alloc, config)?, keeping)?.known_steady();
         Ok(StateHouse {
             alloc,
             image,

@@ -42,7 +42,7 @@ pub record Declares (classes after : List Class) : Type 0 where
   pub parents : HasParents classes → HasParents after
   pub matches : HasParents classes → (t : Template) (e : Entry) → is_declared classes e.class ≡ true → matches after t e ≡ matches classes t e
 
-matches_grown : (classes : List Class) (c : Class) → HasParents classes → (t : Template) (e : Entry) → is_declared classes e.class ≡ true → matches (classes ++ c ∷ []) t e ≡ matches classes t e
+pub matches_grown : (classes : List Class) (c : Class) → HasParents classes → (t : Template) (e : Entry) → is_declared classes e.class ≡ true → matches (classes ++ c ∷ []) t e ≡ matches classes t e
 matches_grown classes c h Any e d = refl
 matches_grown classes c h (Like t) e d =
     ap (λ line. list_any (bytes_eq t.class) line && list_all (λ f. is_null f.1 || value_eq f.1 (value_at e.fields f.0)) t.fields)
@@ -64,7 +64,7 @@ placed_declare st after k h = record {
 
 -- ---- what waits, waits on
 
-any_matches : (classes after : List Class) (ts : List Template) (e : Entry) → ((t : Template) → matches after t e ≡ matches classes t e) → list_any (λ t. matches after t e) ts ≡ list_any (λ t. matches classes t e) ts
+pub any_matches : (classes after : List Class) (ts : List Template) (e : Entry) → ((t : Template) → matches after t e ≡ matches classes t e) → list_any (λ t. matches after t e) ts ≡ list_any (λ t. matches classes t e) ts
 any_matches classes after [] e h = refl
 any_matches classes after (t ∷ ts) e h = rw (h t) (ap (λ b. matches classes t e || b) (any_matches classes after ts e h))
 

@@ -13,8 +13,8 @@ use Rattle.jsp_model.specs.Lookup.{named, joined_at}
 use Rattle.jsp_types.specs.Classes.{is_new}
 use Rattle.jsp_model.specs.Requests.{class_asked}
 use Rattle.jsp_model.specs.Changes.{vote_of, is_not_changed}
-use Rattle.jsp_model.specs.Sight.{is_available}
-use Rattle.jsp_laws.proofs.Lists.{Has}
+use Rattle.jsp_model.specs.Sight.{wants, is_available}
+use Rattle.jsp_laws.proofs.Lists.{Each, Has}
 use Rattle.jsp_quiet.specs.Waking.{is_marked}
 
 -- the request may take a mark from the row
@@ -46,6 +46,12 @@ ask_frees_any st _ = false
 abbrev pub frees_any : State → Step → Bool
 frees_any st (step.Ask s asked rows) = ask_frees_any st asked.ask
 frees_any st _ = false
+
+-- after it the same rows are there, the same requests wait, and each wants the same of them
+pub record AsksAlike (st after : State) : Type 0 where
+  pub rows : after.rows ≡ st.rows
+  pub blocked : after.blocked ≡ st.blocked
+  pub wants : (b : Blocked) → Each (λ (row : Row). wants after b row ≡ wants st b row) st.rows
 
 -- the request may take the row away, though nobody is given it: its lease is cancelled
 abbrev pub ask_ends : Ask → Row → Bool

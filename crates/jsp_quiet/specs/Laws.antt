@@ -24,7 +24,7 @@ use Rattle.jsp_laws.proofs.Rising.{Rising}
 use Rattle.jsp_quiet.specs.Steady.{IsSteady}
 use Rattle.jsp_quiet.specs.Quieting.{stirs, stirred, decides, can_make_due, quiets, owed_events, left_to_say, living, asks_for_some, AllAskForSome}
 use Rattle.jsp_quiet.specs.Waking.{moves, moves_any}
-use Rattle.jsp_quiet.specs.Freeing.{frees_any, ends_any, ends_conflict, WasThere}
+use Rattle.jsp_quiet.specs.Freeing.{frees_any, AsksAlike, ends_any, ends_conflict, WasThere}
 
 -- ---- steady states
 
@@ -82,6 +82,10 @@ abbrev pub FreeComes : Type 0
 FreeComes =
     (st : State) (act : Step) (b : Blocked) (row : Row) → IsFalse (frees_any st act) → Has (next st act).rows row
     → IsTrue (is_available (next st act) b row) → (st.next_number ≤ row.number) ⊎ WasThere st act b row
+
+-- A class that is declared in a steady state changes nothing for those who wait.
+abbrev pub DeclaringStays : Type 0
+DeclaringStays = (st : State) (act : Step) → IsSteady st → IsTrue (frees_any st act) → AsksAlike st (next st act)
 
 -- A row by which a request is held up goes on holding it up over a legal step, unless this may take a mark from the row,
 -- or the row away.

@@ -6,7 +6,7 @@ use Rattle.jsp_model.specs.Outboxes.{outbox_of}
 use Rattle.jsp_model.specs.Steps.{next}
 use Rattle.jsp_model.proofs.Apart.{next_handed}
 use Rattle.jsp_state.specs.Outboxes.{after_handing}
-use Rattle.jsp_audit.proofs.Stepping.{limits_handed, limits_either}
+use Rattle.jsp_audit.proofs.Stepping.{limits_handed, limits_either, steady_handed, steady_either}
 use Rattle.jsp_audit.proofs.OnOffer.{offered_handed}
 use Rattle.jsp_audit.proofs.Stirred.{stirred_handed}
 use Rattle.jsp_audit.proofs.applying.hand_out.Goals as goal
@@ -21,6 +21,7 @@ invariant_of-image c =
           c.hand_out.ensures.err,
       offered_handed c.hand_out.result st c.args.session c.args.count c.hand_out.new.state c.image.inside.offers c.hand_out.ensures.ok c.hand_out.ensures.err c.image.invariant.1,
       stirred_handed c.hand_out.result st c.args.session c.args.count c.hand_out.new.state c.image.inside.stirred c.hand_out.ensures.ok c.hand_out.ensures.err c.image.invariant.2,
+      λ known. steady_either c.hand_out.result st (after_handing st c.args.session c.args.count) c.hand_out.new.state (steady_handed st c.args.session c.args.count c.requires.some there) c.hand_out.ensures.ok c.hand_out.ensures.err (c.image.invariant.3 known),
     )
 
 pub returns-clause-ok : goal.returns-clause-ok

@@ -9,8 +9,8 @@ use Rattle.jsp_audit.proofs.OnOffer.{all_opened}
 use Rattle.jsp_audit.proofs.Stirred.{both_let_go}
 use Rattle.jsp_audit.proofs.offering.offer_let_go.Goals as goal
 
-pub returns-then-frees_any-clause-freed : goal.returns-then-frees_any-clause-freed
-returns-then-frees_any-clause-freed c some = all_opened (frees c.args.state.now c.args.step.now) _ c.args.state.now.rows c.open.ensures
+pub returns-then-may_free_any-clause-freed : goal.returns-then-may_free_any-clause-freed
+returns-then-may_free_any-clause-freed c some = all_opened (frees c.args.state.now c.args.step.now) _ c.args.state.now.rows c.open.ensures
 
 pub returns-then-not-is_known_empty-clause-freed : goal.returns-then-not-is_known_empty-clause-freed
 returns-then-not-is_known_empty-clause-freed c some =
