@@ -172,10 +172,11 @@ pub fn accept_search(
     ensures err { OnErr result (state.new ≡ state.old) }
 {
     let waiting = to_wait(alloc, state, session, id, rows, asked)?;
-    let joining = join(state, caller_of(asked.txn), place_of(state, asked.space))?;
+    let space = place_of(state, asked.space);
+    let joining = join(state, caller_of(asked.txn), space)?;
     match block_or_give(state, asked, waiting, rows) {
         Ok(()) => {
-            learn(state, asked, rows);
+            learn(state, space, asked, rows);
             Ok(())
         }
         Err(e) => {
@@ -187,10 +188,9 @@ pub fn accept_search(
 
 /// Where a search by several values had to look at many rows, more is learned of how to find such ones
 /// sooner.
-fn learn(state: &mut Core, asked: &RowsAsked, rows: &[u64])
+fn learn(state: &mut Core, space: u64, asked: &RowsAsked, rows: &[u64])
     ensures { state.new ≡ state.old }
 {
-    let space = place_of(state, asked.space);
     let last = rows.last().copied();
     'templates: for template in asked.templates {
         learn_of(state, space, template, last);
