@@ -573,16 +573,22 @@ def halves(count):
     return script
 
 
+def until_learned(count):
+    """How many searches it takes until it is learned which of these entries have two values together: 64 are gone
+    through at each, and then none is left. What is asked behind them is measured."""
+    return 2 * count // 64 + 2
+
+
 def reads_crossed(count, times):
     script = halves(count)
-    for _ in range(times):
+    for _ in range(until_learned(count) + times):
         script.search("read", CROSSED[0])
     return script
 
 
 def takes_crossed(count, times):
     script = halves(count)
-    for _ in range(times):
+    for _ in range(until_learned(count) + times):
         script.take_many(CROSSED)
     return script
 

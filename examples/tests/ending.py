@@ -109,17 +109,17 @@ def end_beside_who_reads_nothing(program):
     after two seconds all the same. A third hears what it asked for, and the server says who didn't."""
     server, host, port = listen(program, "--backlog", "100000")
     with Client(host, port) as deaf, Client(host, port) as told_nothing, Client(host, port) as jsp:
+        for client in deaf, told_nothing:
+            client.socket.setsockopt(socket.SOL_SOCKET, socket.SO_RCVBUF, 65_536)
         for client in deaf, told_nothing, jsp:
             client.declare("Job", who="text")
         told_nothing.notify("a", entry("Job"), lease=3_600_000, handback="x" * 200)
         jsp.write("a", entry("Job", who="x" * 8_000), lease=3_600_000)
-        # As long as a busy machine may keep a server from reading.
-        deaf.socket.settimeout(5)
-        try:
-            for _ in range(5_000):
-                deaf.send("read", space="a", template=None, timeout=0)
-        except TimeoutError:
-            pass
+        for _ in range(5_000):
+            deaf.send("read", space="a", template=None, timeout=0)
+        # Once this one stands there, all that was asked before it is answered.
+        deaf.send("write", space="b", entry=entry("Job", who="last"), lease=3_600_000)
+        jsp.read("b", entry("Job", who="last"), timeout=60_000)
         for _ in range(600):
             jsp.write_all("a", [entry("Job", who="y")] * 32, lease=1_000)
         began = time.monotonic()

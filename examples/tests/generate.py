@@ -6,6 +6,7 @@ generate.py script NAME     prints a case's script
 generate.py prints NAME     prints the lines that it has to print, worked out by the rules of docs/PROTOCOL.md
 """
 import random
+from itertools import count
 
 from scripts import (
     BAD_JSON, BAD_REQUEST, LEASE, SPACES, SPACES_ARE, TOO_LONG, Case, compact, declare, done, frame, granted, joined,
@@ -224,6 +225,240 @@ def registrations(case):
     case.asks(notify(7, "Job", "h"), refused(7, 17))
 
 
+def several_values(case):
+    """Requests wait, and registrations are made, by up to six values each. What is written goes to the first request
+    that it matches, or else is stored, and is told to each registration that it matches."""
+    chance = random.Random(7)
+    takers, listener, writer = range(1, 33), 33, 34
+    for _ in range(writer):
+        case.opens()
+    case.asks(declare(1, "Job", dict.fromkeys("abcde", "int")), done(1))
+    case.asks(declare(2, "Rush", {"f": "int"}, "Job"), done(2))
+    numbers = count(1)
+    stored, waiting, listening = [], [], []
+
+    def values(name, most):
+        names = "abcde" + "f" * (name == "Rush")
+        return {key: chance.randrange(3) for key in chance.sample(names, chance.randint(0, min(most, len(names))))}
+
+    def matches(template, entry):
+        return template[0] in (entry[0], "Job") and template[1].items() <= entry[1].items()
+
+    for number in range(3, 2003):
+        name = chance.choice(["Job", "Rush"])
+        kind = chance.choices(["take", "notify", "write"], [9, 1, 10])[0]
+        if kind == "take":
+            taker, template = chance.choice(takers), (name, values(name, 6))
+            case.sends(search(number, "take", *template, LEASE), taker)
+            found = next((entry for entry in stored if matches(template, entry)), None)
+            if found:
+                stored.remove(found)
+                case.says(shown(number, *found), taker)
+            else:
+                next(numbers)
+                waiting.append((template, number, taker))
+        elif kind == "notify":
+            template = (name, values(name, 4))
+            request = notify(number, name, "h")
+            request["template"]["fields"] = template[1]
+            lease = next(numbers)
+            case.sends(request, listener)
+            case.says(granted(number, lease), listener)
+            listening.append([template, lease, 0])
+        else:
+            entry = (name, dict.fromkeys("abcde" + "f" * (name == "Rush")) | values(name, 6))
+            lease = next(numbers)
+            case.sends(write(number, *entry))
+            taken = next((waiter for waiter in waiting if matches(waiter[0], entry)), None)
+            if taken:
+                waiting.remove(taken)
+                case.says(shown(taken[1], *entry), taken[2])
+            else:
+                stored.append(entry)
+            for registration in listening:
+                if matches(registration[0], entry):
+                    registration[2] += 1
+                    case.says(told("h", registration[1], registration[2]), listener)
+            case.says(granted(number, lease))
+
+
+def held_up(case):
+    """Requests wait for entries that transactions took or read, and each answer is due as soon as one is there, or, for
+    read_if and take_if, as soon as none is held up. Transactions end in each way, and entries go that they hold."""
+    chance = random.Random(11)
+    waiters, writer, holder = range(1, 9), 9, 10
+    for _ in range(holder):
+        case.opens()
+    case.asks(declare(1, "Job", {"k": "int", "w": "int"}), done(1))
+    numbers = count(1)
+    rows, waiting = [], []  # [lease, fields, taker, readers] and [session, id, operation, fields]
+    living, joined = [], set()
+
+    def values():
+        return {key: chance.randrange(4) for key in chance.sample("kw", chance.choice([0, 1, 1, 2, 2, 2]))}
+
+    def wanted(fields):
+        return [row for row in rows if fields.items() <= row[1].items()]
+
+    def is_free(row, takes, caller=None):
+        return row[2] is None and not (takes and row[3] - {caller})
+
+    def first(op, fields, caller=None):
+        return next((row for row in wanted(fields) if is_free(row, op.startswith("take"), caller)), None)
+
+    def waits(op, fields):
+        return not op.endswith("_if") or any(not is_free(row, op == "take_if") for row in wanted(fields))
+
+    def answers(said):
+        """What is owed to those that wait, and then all that a line says, by session."""
+        while found := next(((who, row) for who in waiting if (row := first(*who[2:]))), None) or next(
+                ((who, None) for who in waiting if not waits(*who[2:])), None):
+            who, row = found
+            waiting.remove(who)
+            if row and who[2].startswith("take"):
+                rows.remove(row)
+            said.append((who[0], shown(who[1], "Job", row[1]) if row else done(who[1])))
+        for session, answer in sorted(said, key=lambda pair: pair[0]):
+            case.says(answer, session)
+
+    def lets_go(transaction):
+        for row in rows:
+            row[2] = None if row[2] == transaction else row[2]
+            row[3].discard(transaction)
+
+    for number in range(2, 2002):
+        kind = chance.choices(["write", "ask", "begin", "hold", "end", "cancel"], [14, 12, 4, 12, 4, 2])[0]
+        if kind == "write":
+            fields = {"k": chance.randrange(4), "w": chance.randrange(4)}
+            case.sends(write(number, "Job", fields), writer)
+            rows.append([next(numbers), fields, None, set()])
+            answers([(writer, granted(number, rows[-1][0]))])
+        elif kind == "ask":
+            session, fields = chance.choice(waiters), values()
+            op = chance.choice(["take_if", "take_if", "read_if", "take"])
+            case.sends(search(number, op, "Job", fields, LEASE), session)
+            row = first(op, fields)
+            if row is None and waits(op, fields):
+                next(numbers)
+                waiting.append([session, number, op, fields])
+                continue
+            if row and op.startswith("take"):
+                rows.remove(row)
+            answers([(session, shown(number, "Job", row[1]) if row else done(number))])
+        elif kind == "begin" and len(living) < 6:
+            living.append(next(numbers))
+            case.sends({"id": number, "op": "txn", "lease": LEASE}, holder)
+            answers([(holder, granted(number, living[-1]))])
+        elif kind == "hold" and living:
+            transaction, op, fields = chance.choice(living), chance.choice(["take", "read"]), values()
+            case.sends(search(number, op, "Job", fields) | {"txn": transaction}, holder)
+            joined.add(transaction)
+            row = first(op, fields, transaction)
+            if row and op == "take":
+                row[2] = transaction
+            elif row:
+                row[3].add(transaction)
+            answers([(holder, shown(number, "Job", row[1]) if row else done(number))])
+        elif kind == "end" and living:
+            transaction, op = chance.choice(living), chance.choice(["abort", "cancel", "commit"])
+            case.sends({"id": number, "op": op, "lease" if op == "cancel" else "txn": transaction}, holder)
+            if op == "commit":
+                case.settles()
+                if transaction in joined:  # the space votes first, and lets go what was read where nothing was taken
+                    if all(row[2] != transaction for row in rows):
+                        lets_go(transaction)
+                        answers([])
+                    case.settles()
+                case.says(done(number), holder)
+                case.settles()  # what the decision means for the space comes after it
+                rows[:] = [row for row in rows if row[2] != transaction]
+            lets_go(transaction)
+            living.remove(transaction)
+            answers([] if op == "commit" else [(holder, done(number))])
+        elif kind == "cancel" and rows:
+            row = chance.choice(rows)
+            rows.remove(row)
+            case.sends({"id": number, "op": "cancel", "lease": row[0]}, holder)
+            answers([(holder, done(number))])
+
+
+def rare_together(case):
+    """Many entries have each of some values, and few have several of them. What a search by several finds comes first
+    of all that match, whatever was learned of where such entries stand, and whatever came and went since."""
+    chance = random.Random(13)
+    case.opens()
+    case.asks(declare(1, "Job", dict.fromkeys("abcde", "int")), done(1))
+    case.asks(declare(2, "Rush", {"f": "int"}, "Job"), done(2))
+    numbers = count(1)
+    rows, taken, transaction = [], [], None  # [lease, class, fields], in the order of their leases
+
+    def writes(number, ones):
+        name = chance.choice(["Job", "Rush"])
+        fields = dict.fromkeys("abcde" + "f" * (name == "Rush"), 0) | dict.fromkeys(ones, 1)
+        rows.append([next(numbers), name, fields])
+        case.asks(write(number, name, fields), granted(number, rows[-1][0]))
+
+    for number in range(3, 2003):
+        writes(number, chance.choice("abcde"))
+    for number in range(2003, 4003):
+        kind = chance.choices(["write", "search", "hold", "end", "cancel"], [8, 16, 2, 1, 2])[0]
+        ones = chance.sample("abcde", chance.choice([2, 2, 2, 3, 4]))
+        if kind == "write":
+            writes(number, ones)
+        elif kind == "cancel":
+            row = chance.choice(rows)
+            rows.remove(row)
+            case.asks({"id": number, "op": "cancel", "lease": row[0]}, done(number))
+        elif kind == "end" and transaction:
+            case.asks({"id": number, "op": "abort", "txn": transaction}, done(number))
+            rows, taken, transaction = sorted(rows + taken), [], None
+        elif kind == "end":
+            transaction = next(numbers)
+            case.asks({"id": number, "op": "txn", "lease": LEASE}, granted(number, transaction))
+        elif kind == "search" or transaction:
+            name, op = chance.choice(["Job", "Job", "Rush"]), chance.choice(["read", "take"])
+            asked = search(number, op, name, dict.fromkeys(ones, 1))
+            found = next(
+                (row for row in rows if name in (row[1], "Job") and all(row[2][key] for key in ones)), None
+            )
+            if found and op == "take":
+                rows.remove(found)
+            if kind == "hold" and op == "take":
+                asked["txn"] = transaction
+                taken += [found] if found else []
+            case.asks(asked, shown(number, *found[1:]) if found else done(number))
+
+
+def class_tree(case):
+    """A tree of sixty classes, of which entries come and go in two spaces, a few of each. A search by a class finds
+    what comes first of all that are of it or below it."""
+    chance = random.Random(17)
+    case.opens()
+    lines = {}  # of each class itself and those above it
+    for place in range(60):
+        name, parent = f"C{place}", chance.choice([None, *(above for above in lines if len(lines[above]) < 16)])
+        lines[name] = {name} | lines.get(parent, set())
+        case.asks(declare(1, name, {} if parent else {"k": "int"}, parent), done(1))
+    numbers, rows = count(1), {"a": [], "b": []}  # (lease, class, fields), in the order of their leases
+    for number in range(2, 2002):
+        space, name, fields = chance.choice("ab"), chance.choice([*lines]), {"k": chance.randrange(3)}
+        kind = chance.choices(["write", "read", "take", "cancel"], [8, 8, 8, 1])[0]
+        if kind == "write":
+            rows[space].append((next(numbers), name, fields))
+            case.asks(write(number, name, fields) | {"space": space}, granted(number, rows[space][-1][0]))
+        elif kind == "cancel" and rows[space]:
+            row = rows[space].pop(chance.randrange(len(rows[space])))
+            case.asks({"id": number, "op": "cancel", "lease": row[0]}, done(number))
+        elif kind != "cancel":
+            asked = chance.choice([{}, fields])
+            matching = (row for row in rows[space] if name in lines[row[1]] and asked.items() <= row[2].items())
+            found = next(matching, None)
+            if found and kind == "take":
+                rows[space].remove(found)
+            request = search(number, kind, name, asked) | {"space": space}
+            case.asks(request, shown(number, *found[1:]) if found else done(number))
+
+
 def handbacks(case):
     """A handback has 256 bytes at most, as they are read, and comes back whole."""
     case.opens()
@@ -242,5 +477,6 @@ def handbacks(case):
 if __name__ == "__main__":
     main([
         pieces, prefixes, in_turn, lengths, nesting, changes, classes, batches, texts, far_row,
-        waiting, waiting_commits, transactions, registrations, handbacks, *CASES,
+        waiting, waiting_commits, transactions, registrations, several_values, held_up, rare_together, class_tree,
+        handbacks, *CASES,
     ])
