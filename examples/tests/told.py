@@ -7,6 +7,7 @@ with how many connections each opens.
 """
 import json
 import socket
+import statistics
 import struct
 import sys
 import time
@@ -55,6 +56,23 @@ def each_line_is_woken(address):
             assert client.wait(waits[key]) == entry("Job", k=key)
 
 
+def whom_an_act_answers_is_woken_by_it(address):
+    """Whoever wasn't woken would be answered when the server next reads its clock, up to ten milliseconds later."""
+    times = []
+    with connect(address) as jsp, connect(address) as other:
+        jsp.declare("Job", k="int")
+        jsp.notify("a", entry("Job"), lease=LONGEST)
+        for key in range(200):
+            waits = jsp.send("take", space="a", template=entry("Job", k=key), timeout=10**9, txn=None)
+            assert jsp.spaces() == ["a", "b"]
+            began = time.monotonic()
+            other.write("a", entry("Job", k=key), lease=LONGEST)
+            assert jsp.wait(waits) == entry("Job", k=key)
+            assert jsp.event().seq == key + 1
+            times.append(time.monotonic() - began)
+    assert statistics.median(times) < 0.003, times
+
+
 def events_go_out_before_the_end(address):
     """A session closes itself while far more is waiting for it than is handed out at once."""
     keys = [entry("Job", k=key) for key in range(64)]
@@ -89,6 +107,7 @@ def one_who_reads_late(address):
 CASES = {
     a_wait_ends_by_the_clock_alone: 1,
     each_line_is_woken: 41,
+    whom_an_act_answers_is_woken_by_it: 2,
     events_go_out_before_the_end: 1,
     one_who_reads_late: 2,
 }
