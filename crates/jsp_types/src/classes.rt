@@ -1,5 +1,5 @@
 //! The declared classes.
-ghost use Rattle.std.specs.Prelude.{◌≡◌, ◌==◌, if◌then◌else◌, [], length, option_copied, MatchOption, IfOk, IfSome, IsTrue, Some, None, option_and_then, ◌||◌, ℕ, List, true, bytes_eq};
+ghost use Rattle.std.specs.Prelude.{◌≡◌, ◌==◌, if◌then◌else◌, [], length, option_copied, find, MatchOption, IfOk, IfSome, IsTrue, Some, None, option_and_then, ◌||◌, ℕ, List, true, bytes_eq};
 ghost use Rattle.std.specs.List.{slice_get, list_any};
 ghost use Rattle.jsp_types.specs.Classes.{class_named, is_declared, is_sub, line_of, declared_fields, is_within_limits};
 ghost use Rattle.jsp_types.specs.NameMaps.{looked_up};
@@ -55,6 +55,25 @@ fn copy_of(known: &Items<Shared>) -> Result<Items<Shared>, NoMemory>
     known.clone()
 }
 
+/// Up to so many classes are found by comparing their names sooner than by their places.
+const FEW: usize = 8;
+
+/// What is kept of the class of that name, which is looked for one by one.
+fn first_named<'a>(known: &'a [Shared], name: &str) -> Option<&'a Known>
+    ensures { option_copied result ≡ find (λ k. bytes_eq k.class.name name.now) known.now }
+{
+    match first_of_name(known, name) {
+        None => None,
+        Some(shared) => Some(shared.get()),
+    }
+}
+
+fn first_of_name<'a>(known: &'a [Shared], name: &str) -> Option<&'a Shared>
+    ensures { option_copied result ≡ find (λ k. bytes_eq k.class.name name.now) known.now }
+{
+    known.iter().find(|shared| shared.is_of(name))
+}
+
 /// What is kept of the class of that name, by the place that is noted for it.
 fn find_known<'a>(known: &'a [Shared], places: &Places, name: &str) -> Option<&'a Known>
     ensures { option_copied result ≡ found_at (looked_up places.now.shared) known.now name.now }
@@ -107,7 +126,11 @@ impl Classes {
             (class_named self.now name.now ≡ None)
             (λ known. IsKeptOf self.now name.now known.now) }
     {
-        find_known(self.known.as_slice(), &self.places, name)
+        let known = self.known.as_slice();
+        if known.len() <= FEW {
+            return first_named(known, name);
+        }
+        find_known(known, &self.places, name)
     }
 
     /// How many classes are declared.

@@ -22,6 +22,7 @@ mod names;
 mod names_below;
 mod places;
 mod shared;
+mod short_text;
 mod sorting;
 mod text;
 mod value;

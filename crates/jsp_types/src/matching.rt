@@ -43,8 +43,9 @@ pub fn matches(classes: &Classes, template: &Template, entry: &Entry) -> bool
     match template {
         Template::Any => true,
         Template::Like(like) => {
-            classes.is_sub(entry.class.as_str(), like.class.as_str())
-                && has_values(entry.fields.as_slice(), like.fields.as_slice())
+            // Values differ more often than classes, and are compared sooner.
+            has_values(entry.fields.as_slice(), like.fields.as_slice())
+                && classes.is_sub(entry.class.as_str(), like.class.as_str())
         }
     }
 }

@@ -221,7 +221,7 @@ fn request(alloc: Global, version: Version, json: &Tree<'_>) -> Result<Asked, Fl
         return Err(Flaw::Refused);
     };
     let ask = ask(alloc, version, name, json)?;
-    match Asked::checked(Request { id, ask }) {
+    match Asked::checked(alloc, Request { id, ask })? {
         None => Err(Flaw::Refused),
         Some(asked) => Ok(asked),
     }
