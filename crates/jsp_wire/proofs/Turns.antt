@@ -1,5 +1,5 @@
 -- What reading a value gives, by its first token, and the items of a list that grows at its end.
-use Rattle.std.proofs.Common.{◌≡◌, ℕ, ◌-◌, ◌<◌, ◌⊎◌, List, [], ◌∷◌, ◌++◌, length, Bool, Option, Some, None, Vec, BTreeMap, Global, Bor, refl, ap, ap₂, ◌∙◌, inl, inr, rules}
+use Rattle.std.proofs.Common.{◌≡◌, ℕ, ◌-◌, ◌<◌, ◌⊎◌, List, [], ◌∷◌, ◌++◌, length, Bool, Option, Some, None, Vec, Global, Bor, refl, ap, ap₂, ◌∙◌, inl, inr, rules}
 use Rattle.json.specs.Token as token
 use Rattle.json.specs.Token.{Token}
 use Rattle.json.specs.Json.{parse_map, items, members, value}
@@ -78,8 +78,8 @@ reads-no_number depth ts rest s is none = ap (converted of_json) (ap (value dept
 pub view-List : (v : Vec Tree Global) → view (tree.List v) ≡ array (items_view v.items)
 view-List v = search (rules, the_lemmas)
 
-pub view-Object : (m : BTreeMap (Bor (List ℕ)) Tree) → view (Object m) ≡ object (members_view m.entries)
-view-Object m = search (rules, the_lemmas)
+pub view-Object : (v : Vec (Bor (List ℕ) × Tree) Global) → view (Object v) ≡ object (members_view v.items)
+view-Object v = search (rules, the_lemmas)
 
 pub view-Null : view Null ≡ null
 view-Null = search (rules, the_lemmas)

@@ -1,17 +1,20 @@
 //! The parts of a request's object.
 ghost use Rattle.std.specs.Prelude.{◌≡◌, map, option_map, Some};
-ghost use Rattle.jsp_wire.specs.Tree.{view, members_view};
+ghost use Rattle.jsp_wire.specs.Tree.{view, members_view, members_in_order, members_by_ref};
 ghost use Rattle.jsp_wire.specs.Parts.{Gives, is_known, only, only_members, or_null, number_of, text_at, number_at, count_at, version_numbered, version_at, optional_text_at, optional_number_at, id_at, each_member, members_at, value_of, kind_named, kind_of, kinds_at, raw_of, entry_at, template_of, template_at};
 ghost use Rattle.serde_json.specs.Find.{as_str};
 
 use crate::Version;
 use crate::adding::add;
 use crate::fault::Flaw;
-use crate::tree::{Members, Tree};
+use crate::members::{is_ascending, ordered};
+use crate::tree::Tree;
 use jsp_types::{Items, Kind, Raw, Text, Value};
 use std::alloc::Global;
+use std::collections::BTreeMap;
 
 /// Whether the value is an object with no key beside these.
+#[inline(always)]
 pub(crate) fn only(json: &Tree<'_>, names: &[&str]) -> Result<(), Flaw>
     ensures { Gives result (only (map (λ n. n.now) names.now) (view json.now)) }
 {
@@ -21,11 +24,12 @@ pub(crate) fn only(json: &Tree<'_>, names: &[&str]) -> Result<(), Flaw>
     }
 }
 
-fn only_members(members: &Members<'_>, names: &[&str]) -> Result<(), Flaw>
+#[inline(always)]
+fn only_members<'a>(members: &[(&'a str, Tree<'a>)], names: &[&str]) -> Result<(), Flaw>
     ensures { Gives result
-        (only_members (map (λ n. n.now) names.now) (members_view members.now.entries)) }
+        (only_members (map (λ n. n.now) names.now) (members_view members.now)) }
 {
-    for (name, _) in members.iter() {
+    for (name, _) in members {
         if !is_known(name, names) {
             return Err(Flaw::Refused);
         }
@@ -33,6 +37,7 @@ fn only_members(members: &Members<'_>, names: &[&str]) -> Result<(), Flaw>
     Ok(())
 }
 
+#[inline(always)]
 fn is_known(name: &str, names: &[&str]) -> bool
     ensures { result ≡ is_known (map (λ n. n.now) names.now) name.now }
 {
@@ -168,8 +173,38 @@ fn value(alloc: Global, json: &Tree<'_>) -> Result<Value, Flaw>
 }
 
 /// The values of the members, in byte order of their keys.
-fn values(alloc: Global, members: &Members<'_>) -> Result<Items<(Text, Value)>, Flaw>
-    ensures { Gives result (each_member value_of (members_view members.now.entries)) }
+fn values<'a>(alloc: Global, members: &[(&'a str, Tree<'a>)]) -> Result<Items<(Text, Value)>, Flaw>
+    ensures { Gives result (each_member value_of (members_view members.now)) }
+{
+    if is_ascending(members) {
+        return values_in_order(alloc, members);
+    }
+    let ordered = ordered(alloc, members)?;
+    values_by_ref(alloc, &ordered)
+}
+
+/// The values of members as they stand.
+fn values_in_order<'a>(
+    alloc: Global,
+    members: &[(&'a str, Tree<'a>)],
+) -> Result<Items<(Text, Value)>, Flaw>
+    ensures { Gives result (each_member value_of (members_in_order members.now)) }
+{
+    let mut found = Items::new(alloc);
+    for (name, json) in members {
+        let value = value(alloc, json)?;
+        let name = text(alloc, name)?;
+        add(&mut found, (name, value), members.len())?;
+    }
+    Ok(found)
+}
+
+/// The values of members by the order of their keys.
+fn values_by_ref(
+    alloc: Global,
+    members: &BTreeMap<&str, &Tree<'_>>,
+) -> Result<Items<(Text, Value)>, Flaw>
+    ensures { Gives result (each_member value_of (members_by_ref members.now.entries)) }
 {
     let mut found = Items::new(alloc);
     for (name, json) in members.iter() {
@@ -210,8 +245,22 @@ fn kind(json: &Tree<'_>) -> Result<Option<Kind>, Flaw>
 }
 
 /// The kinds of the members, in byte order of their keys.
-fn kinds(alloc: Global, members: &Members<'_>) -> Result<Items<(Text, Option<Kind>)>, Flaw>
-    ensures { Gives result (each_member kind_of (members_view members.now.entries)) }
+fn kinds<'a>(
+    alloc: Global,
+    members: &[(&'a str, Tree<'a>)],
+) -> Result<Items<(Text, Option<Kind>)>, Flaw>
+    ensures { Gives result (each_member kind_of (members_view members.now)) }
+{
+    let ordered = ordered(alloc, members)?;
+    kinds_by_ref(alloc, &ordered)
+}
+
+/// The kinds of members by the order of their keys.
+fn kinds_by_ref(
+    alloc: Global,
+    members: &BTreeMap<&str, &Tree<'_>>,
+) -> Result<Items<(Text, Option<Kind>)>, Flaw>
+    ensures { Gives result (each_member kind_of (members_by_ref members.now.entries)) }
 {
     let mut found = Items::new(alloc);
     for (name, json) in members.iter() {

@@ -44,6 +44,7 @@ fn whole<'a>(alloc: Global, text: &'a str, scratch: &'a mut Scratch) -> Result<T
 }
 
 /// The next value, in which arrays and objects nest at most so deep.
+#[inline(always)]
 #[cycle(read)]
 fn value<'a>(alloc: Global, reader: &mut Reader<'a>, depth: usize) -> Result<Tree<'a>, Flaw>
     ensures ok { IfOk result
@@ -77,6 +78,7 @@ fn value<'a>(alloc: Global, reader: &mut Reader<'a>, depth: usize) -> Result<Tre
 }
 
 /// The items of an array up to its end.
+#[inline(never)]
 #[cycle(read)]
 fn list<'a>(alloc: Global, reader: &mut Reader<'a>, depth: usize) -> Result<Vec<Tree<'a>>, Flaw>
     ensures ok { IfOk result
@@ -95,18 +97,19 @@ fn list<'a>(alloc: Global, reader: &mut Reader<'a>, depth: usize) -> Result<Vec<
 }
 
 /// The members of an object up to its end.
+#[inline(never)]
 #[cycle(read)]
 fn object<'a>(alloc: Global, reader: &mut Reader<'a>, depth: usize) -> Result<Members<'a>, Flaw>
     ensures ok { IfOk result
         (λ found. converted (λ ms. of_members ms no_members)
         (members (value depth) (length reader.old) reader.old)
-        ≡ Some (members_view found.entries, reader.new)) }
+        ≡ Some (members_view found.items, reader.new)) }
     ensures refused { result ≡ Err Refused
         → converted (λ ms. of_members ms no_members)
         (members (value depth) (length reader.old) reader.old) ≡ None }
     ensures shorter { OnOk result (length reader.new < length reader.old) }
 {
-    let mut found = Members::new(alloc);
+    let mut found: Members<'a> = Vec::new(alloc);
     'members: loop {
         let Ok(key) = reader.next_key() else {
             return Err(Flaw::Refused);

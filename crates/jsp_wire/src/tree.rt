@@ -5,10 +5,9 @@ ghost use Rattle.jsp_wire.specs.Parts.{number_of};
 ghost use Rattle.jsp_wire.specs.Tree.{view, items_view, members_view};
 
 use serde_json::Number;
-use std::collections::BTreeMap;
 
-/// The members of an object, in byte order of their keys, each key once.
-pub(crate) type Members<'a> = BTreeMap<&'a str, Tree<'a>>;
+/// The members of an object, as they were written: of a key that comes twice the last value counts.
+pub(crate) type Members<'a> = Vec<(&'a str, Tree<'a>)>;
 
 /// A JSON value. Its texts are those of the payload, or of the reader's scratch space where they
 /// have escapes.
@@ -60,11 +59,11 @@ impl<'a> Tree<'a> {
         }
     }
 
-    pub(crate) fn as_object(&self) -> Option<&Members<'a>>
-        ensures { option_map (λ m. members_view m.now.entries) result ≡ as_object (view self.now) }
+    pub(crate) fn as_object(&self) -> Option<&[(&'a str, Tree<'a>)]>
+        ensures { option_map (λ m. members_view m.now) result ≡ as_object (view self.now) }
     {
         if let Tree::Object(members) = self {
-            Some(members)
+            Some(members.as_slice())
         } else {
             None
         }
@@ -75,16 +74,25 @@ impl<'a> Tree<'a> {
         ensures { option_map (λ t. view t.now) result ≡ get name.now (view self.now) }
     {
         if let Tree::Object(members) = self {
-            member(members, name)
+            member(members.as_slice(), name)
         } else {
             None
         }
     }
 }
 
-fn member<'t, 'a>(members: &'t Members<'a>, name: &str) -> Option<&'t Tree<'a>>
+/// The last value of that name.
+fn member<'t, 'a>(members: &'t [(&'a str, Tree<'a>)], name: &str) -> Option<&'t Tree<'a>>
     ensures { option_map (λ t. view t.now) result
-        ≡ get_member name.now (members_view members.now.entries) }
+        ≡ get_member name.now (members_view members.now) }
 {
-    members.get(name)
+    let mut left = members.len();
+    'back: while left > 0 {
+        left -= 1;
+        let (key, tree) = &members[left];
+        if *key == name {
+            return Some(tree);
+        }
+    }
+    None
 }

@@ -131,13 +131,13 @@ pub object-returns-in_default-clause-refused : goal.object-returns-in_default-cl
 object-returns-in_default-clause-refused t c refused =
     let l = c.members in
     let none : read_key l.reader ≡ None = grind arith in
-    l.invariant.2 ∙ members-no_key (value c.args.depth) (members_view l.found.entries) l.invariant.0 l.reader none
+    l.invariant.2 ∙ members-no_key (value c.args.depth) (members_view l.found.items) l.invariant.0 l.reader none
 
 pub object-returns-in_default-key-clause-ok : goal.object-returns-in_default-key-clause-ok
 object-returns-in_default-key-clause-ok t c =
     let l = c.members in
     let end : read_key l.reader ≡ Some (None, c.next_key.new.self) = grind arith in
-    l.invariant.2 ∙ members-over (value c.args.depth) (members_view l.found.entries) l.invariant.0 l.reader c.next_key.new.self l.invariant.1 end
+    l.invariant.2 ∙ members-over (value c.args.depth) (members_view l.found.items) l.invariant.0 l.reader c.next_key.new.self l.invariant.1 end
 
 pub object-returns-in_err-member-clause-refused : goal.object-returns-in_err-member-clause-refused
 object-returns-in_err-member-clause-refused t c refused =
@@ -145,14 +145,14 @@ object-returns-in_err-member-clause-refused t c refused =
     let k = c.in-Some.key.now in
     let s = c.next_key.new.self in
     let key : read_key l.reader ≡ Some (Some k, s) = grind arith in
-    l.invariant.2 ∙ members-refused (value c.args.depth) (members_view l.found.entries) l.invariant.0 k l.reader s key (c.value.ensures.refused (grind arith))
+    l.invariant.2 ∙ members-refused (value c.args.depth) (members_view l.found.items) l.invariant.0 k l.reader s key (c.value.ensures.refused (grind arith))
 
 pub object-members-preserved : goal.object-members-preserved
 object-members-preserved t c =
     let p = value c.args.depth in
     let l = c.members in
     let n = l.invariant.0 in
-    let old = members_view l.found.entries in
+    let old = members_view l.found.items in
     let k = c.in-Some.key.now in
     let s = c.next_key.new.self in
     let key : read_key l.reader ≡ Some (Some k, s) = grind arith in

@@ -1,7 +1,16 @@
-use Rattle.std.proofs.Common.{option_map, ap, ◌∙◌}
-use Rattle.jsp_wire.specs.Tree.{view}
-use Rattle.jsp_wire.proofs.Placed.{view_of_ref, view-lookup}
+use Rattle.std.proofs.Common.{sym, ◌∙◌, arith}
+use Rattle.jsp_wire.proofs.Placed.{found_back, not_back}
 use Rattle.jsp_wire.proofs.tree.member.Goals as goal
 
-pub returns : goal.returns
-returns c = view_of_ref c.get.result ∙ ap (option_map view) c.get.ensures.value ∙ view-lookup c.args.name.now c.args.members.now.entries
+pub returns-then-eq : goal.returns-then-eq
+returns-then-eq c =
+    found_back c.args.name.now c.args.members.now c.back.left c.index-members-left.result c.back-test.true c.back.invariant.within c.index-members-left.is
+    (sym c.eq.ensures ∙ c.if-eq.true) c.back.invariant.same
+
+pub back-preserved : goal.back-preserved
+back-preserved c =
+    record {
+      within = omega (arith, c.back-test.true, c.back.invariant.within);
+      same = not_back c.args.name.now c.args.members.now c.back.left c.index-members-left.result c.back-test.true c.back.invariant.within c.index-members-left.is
+          (sym c.eq.ensures ∙ c.if-eq.false) c.back.invariant.same;
+    }
