@@ -9,6 +9,7 @@ use jsp_audit::apply_judged;
 use jsp_core::{Core, LiveImage};
 use jsp_model::{Step, Why};
 use jsp_reply::Refusal;
+use jsp_table::make_room;
 use jsp_types::NoMemory;
 use std::alloc::Global;
 
@@ -78,8 +79,7 @@ pub(crate) fn reserve_places(state: &Core, log: &mut Vec<Step>) -> Result<(), No
     ensures capacity { vec_capacity log.old ≤ vec_capacity log.new }
     ensures ok { OnOk result (vec_len log.new + (length state.now.sessions + 2) ≤ vec_capacity log.new) }
 {
-    log.reserve(state.sessions.len() + 2)?;
-    Ok(())
+    make_room(log, state.sessions.len() + 2)
 }
 
 /// Enters a step in the log, which has room for it.

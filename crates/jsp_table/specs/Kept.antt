@@ -1,9 +1,10 @@
 -- The numbers of a list, however they are kept.
 use Rattle.std.specs.Prelude.{ℕ, List, [], ◌∷◌}
 use Rattle.jsp_table.specs.declared.numbers.Kept.{Kept}
-use Rattle.jsp_table.specs.declared.numbers.Kept.TheVariants.{One, Few, Many}
+use Rattle.jsp_table.specs.declared.numbers.Kept.TheVariants.{Empty, One, Few, Many}
 
 abbrev pub numbers_in : Kept → List ℕ
+numbers_in Empty = []
 numbers_in (One number) = number ∷ []
-numbers_in (Few numbers) = numbers.items
-numbers_in (Many numbers) = numbers.keys
+numbers_in (Few numbers) = numbers.value.items
+numbers_in (Many numbers) = numbers.value.keys

@@ -14,6 +14,7 @@ mod few;
 mod hints;
 mod many;
 mod numbers;
+mod room;
 mod table;
 
 pub use counts::{
@@ -21,5 +22,6 @@ pub use counts::{
 };
 pub use hints::{Hints, add_hint, drop_hint};
 pub use numbers::Numbers;
+pub use room::make_room;
 pub use std::alloc::AllocError as NoMemory;
 pub use table::{Change, Numbering, Table, Test, TryChange};

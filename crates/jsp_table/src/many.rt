@@ -10,11 +10,11 @@ use std::collections::BTreeSet;
 use std::ops::Bound;
 
 /// A tree of these numbers.
-pub(crate) fn many_of(alloc: Global, numbers: &[u64]) -> Result<BTreeSet<u64>, NoMemory>
-    ensures { IfOk result (IsFromIterResult nat_cmp numbers.now) }
+pub(crate) fn many_of(alloc: Global, numbers: &[u64]) -> Result<Box<BTreeSet<u64>>, NoMemory>
+    ensures { IfOk result (λ many. IsFromIterResult nat_cmp numbers.now many.value) }
 {
     let many = numbers.iter().copied().collect(alloc)?;
-    Ok(many)
+    Ok(Box::new(alloc, many)?)
 }
 
 /// Whether a number is one of them.

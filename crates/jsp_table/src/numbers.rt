@@ -16,9 +16,9 @@ const MOST_FEW: usize = 256;
 
 /// Numbers in rising order, each once. Contracts see the list of them.
 ///
-/// Most lists are of a single number, which takes no block of its own. A few numbers stand next to one
-/// another. Once there are more, they are a tree, so that one in the middle of very many goes as quickly as
-/// the first. What was a tree stays one.
+/// Most lists are of a single number, which takes no block of its own, so that a map of lists is small. A few
+/// numbers stand next to one another. Once there are more, they are a tree, so that one in the middle of very
+/// many goes as quickly as the first. What was a tree stays one.
 #[derive(Drop)]
 pub struct Numbers {
     alloc: Global,
@@ -28,9 +28,10 @@ pub struct Numbers {
 /// How numbers are kept.
 #[derive(Drop)]
 pub(crate) enum Kept {
+    Empty,
     One(u64),
-    Few(Vec<u64>),
-    Many(BTreeSet<u64>),
+    Few(Box<Vec<u64>>),
+    Many(Box<BTreeSet<u64>>),
 }
 
 impl Model for Numbers {
@@ -52,7 +53,7 @@ impl Numbers {
     {
         Numbers {
             alloc,
-            kept: Kept::Few(Vec::new(alloc)),
+            kept: Kept::Empty,
         }
     }
 
@@ -62,6 +63,7 @@ impl Numbers {
         ensures increasing { AreIncreasing self.now }
     {
         match &self.kept {
+            Kept::Empty => 0,
             Kept::One(_) => 1,
             Kept::Few(numbers) => numbers.len(),
             Kept::Many(numbers) => numbers.len(),
@@ -80,6 +82,7 @@ impl Numbers {
         ensures { result ≡ contains self.now number }
     {
         match &self.kept {
+            Kept::Empty => false,
             Kept::One(one) => *one == number,
             Kept::Few(numbers) => are_few_with(numbers, number),
             Kept::Many(numbers) => are_many_with(numbers, number),
@@ -91,6 +94,7 @@ impl Numbers {
         ensures { IfOk result (λ v. v.items ≡ self.now) }
     {
         let copies = match &self.kept {
+            Kept::Empty => Vec::new(alloc),
             Kept::One(one) => slice::from_ref(one).iter().copied().collect(alloc)?,
             Kept::Few(numbers) => numbers.iter().copied().collect(alloc)?,
             Kept::Many(numbers) => numbers.iter().copied().collect(alloc)?,
@@ -104,6 +108,7 @@ impl Numbers {
         ensures increasing { AreIncreasing self.now }
     {
         match &self.kept {
+            Kept::Empty => None,
             Kept::One(one) => next_of_few(slice::from_ref(one), number),
             Kept::Few(numbers) => next_of_few(numbers, number),
             Kept::Many(numbers) => next_of_many(numbers, number),
@@ -131,7 +136,7 @@ impl Numbers {
     pub fn remove(&mut self, number: u64)
         ensures { (m : ℕ) → m ≢ number → contains self.old m ≡ true → contains self.new m ≡ true }
     {
-        remove_from(self.alloc, &mut self.kept, number);
+        remove_from(&mut self.kept, number);
     }
 }
 
@@ -143,7 +148,7 @@ fn make_way(alloc: Global, kept: &mut Kept) -> Result<(), NoMemory>
 {
     if let Kept::Few(numbers) = kept {
         if numbers.len() >= MOST_FEW {
-            let many = many_of(alloc, numbers)?;
+            let many = many_of(alloc, numbers.as_slice())?;
             *kept = Kept::Many(many);
         }
     }
@@ -158,37 +163,36 @@ fn add_to(alloc: Global, kept: &mut Kept, number: u64) -> Result<(), NoMemory>
     ensures keeps { (m : ℕ) → contains (numbers_in kept.old) m ≡ true → contains (numbers_in kept.new) m ≡ true }
 {
     match kept {
+        Kept::Empty => {
+            *kept = Kept::One(number);
+            Ok(())
+        }
         Kept::One(one) => {
             if *one != number {
                 let few = few_of_two(alloc, *one, number)?;
-                *kept = Kept::Few(few);
+                *kept = Kept::Few(Box::new(alloc, few)?);
             }
             Ok(())
         }
-        Kept::Few(numbers) => {
-            if numbers.is_empty() {
-                *kept = Kept::One(number);
-                return Ok(());
-            }
-            add_to_few(numbers, number)
-        }
-        Kept::Many(numbers) => add_to_many(numbers, number),
+        Kept::Few(numbers) => add_to_few(&mut **numbers, number),
+        Kept::Many(numbers) => add_to_many(&mut **numbers, number),
     }
 }
 
 /// Takes a number out, if it is there. Takes no memory.
-fn remove_from(alloc: Global, kept: &mut Kept, number: u64)
+fn remove_from(kept: &mut Kept, number: u64)
     requires { AreIncreasing (numbers_in kept.old) }
     ensures increasing { AreIncreasing (numbers_in kept.new) }
     ensures keeps { (m : ℕ) → m ≢ number → contains (numbers_in kept.old) m ≡ true → contains (numbers_in kept.new) m ≡ true }
 {
     match kept {
+        Kept::Empty => {}
         Kept::One(one) => {
             if *one == number {
-                *kept = Kept::Few(Vec::new(alloc));
+                *kept = Kept::Empty;
             }
         }
-        Kept::Few(numbers) => remove_from_few(numbers, number),
-        Kept::Many(numbers) => remove_from_many(numbers, number),
+        Kept::Few(numbers) => remove_from_few(&mut **numbers, number),
+        Kept::Many(numbers) => remove_from_many(&mut **numbers, number),
     }
 }

@@ -8,6 +8,7 @@ ghost use Rattle.jsp_table.specs.Places.{living, AreKept, AreOver};
 
 use crate::few::next_of_few_from;
 use crate::numbers::Kept;
+use crate::room::make_room;
 use crate::{NoMemory, Numbers};
 use std::alloc::Global;
 use std::collections::BTreeSet;
@@ -94,9 +95,9 @@ impl<T, N: Numbering<T>> Table<T, N> {
         ensures err { OnErr result (self.new ≡ self.old) }
         ensures things_stay { OnErr result (things.new.items ≡ things.old.items) }
     {
-        self.numbers.reserve(things.len())?;
+        make_room(&mut self.numbers, things.len())?;
         make_way_for::<T, N>(&mut self.numbers, &mut self.slots, things);
-        self.slots.reserve(things.len())?;
+        make_room(&mut self.slots, things.len())?;
         append_numbers::<T, N>(&mut self.numbers, things)?;
         append_things(&mut self.slots, things)?;
         Ok(())
@@ -363,6 +364,7 @@ fn first_named<'a, T, N: Numbering<T>, P: Test<T>>(
     ensures { option_copied result ≡ find (is_hit N.number_of (P.is_passed test.now) numbers.now after) table.now }
 {
     match numbers.kept() {
+        Kept::Empty => first_of_few(table, &[], after, test),
         Kept::One(one) => first_of_few(table, slice::from_ref(one), after, test),
         Kept::Few(few) => first_of_few(table, few, after, test),
         Kept::Many(many) => first_of_many(table, many, after, test),

@@ -11,7 +11,7 @@ make_way_for-requires-clause-rising g c =
     subst (AreNumbered g.N.Numbering.number_of) (sym all) c.requires
 
 pub append_things-requires : goal.append_things-requires
-append_things-requires g c = omega (arith, c.in_ok-reserve-2.ensures.ok, c.len-2.ensures)
+append_things-requires g c = omega (arith, c.in_ok-make_room-2.ensures.ok, c.len-2.ensures)
 
 pub invariant_of-self-2 : goal.invariant_of-self-2
 invariant_of-self-2 g c =
