@@ -37,16 +37,25 @@ impl KeyedRows {
         }
     }
 
-    /// Whether the list of each value is long, and what was found isn't near where a search through it
-    /// begins.
+    /// Whether the list of each value is long, and what was found isn't near where a search through one
+    /// begins. How long they are is looked at first, since most templates have a value that is rare.
     fn is_to_learn(&self, space: u64, fields: &[(Text, Value)], last: Option<u64>) -> bool {
-        fields.iter().all(|field| field.1.is_null() || self.is_far(space, field, last))
+        fields
+            .iter()
+            .all(|field| field.1.is_null() || self.is_common(space, field))
+            && fields.iter().all(|field| field.1.is_null() || self.is_far(space, field, last))
     }
 
-    /// Whether the list of a value is long, and a number isn't near where a search through it begins.
+    /// Whether the list of a value is long.
+    fn is_common(&self, space: u64, field: &(Text, Value)) -> bool {
+        let listed = self.listed(&OfField { space, field }, Unseen::Held);
+        listed.numbers.len() >= MANY
+    }
+
+    /// Whether a number isn't near where a search through the list of a value begins.
     fn is_far(&self, space: u64, field: &(Text, Value), number: Option<u64>) -> bool {
         let listed = self.listed(&OfField { space, field }, Unseen::Held);
-        listed.numbers.len() >= MANY && !is_near(listed.numbers, listed.start, number)
+        !is_near(listed.numbers, listed.start, number)
     }
 }
 
