@@ -5,6 +5,7 @@
 Each case is run against a server of its own, and prints nothing where all is as it should be. `hostile.py cases` lists
 them, with what their servers are to be like.
 """
+import contextlib
 import json
 import socket
 import struct
@@ -161,13 +162,7 @@ def asks_now_and_then(address):
             jsp.write("a", entry("Job", k=1), lease=LONGEST)
             time.sleep(0.3)
         assert waiting.socket.recv(1) == b""
-        heard = 0
-        try:
-            while told.event(SECONDS):
-                heard += 1
-        except ConnectionError:
-            pass
-        assert 0 < heard < 10
+        assert 0 < heard(told) < 10
         assert time.monotonic() - began < 10
         assert jsp.spaces() == ["a", "b"]
 
@@ -201,25 +196,42 @@ def declares_what_a_frame_holds(address):
     is_served(address)
 
 
-def never_reads_its_events(address):
-    """It is told of each entry and reads nothing: its line ends, and who writes is served all the while."""
-    with Client(*address) as late, Client(*address) as other:
-        for client in (late, other):
+def silent_listeners(address, count):
+    """So many clients are told of each entry and read nothing: their lines end, and who writes is served all the while."""
+    with contextlib.ExitStack() as clients:
+        other, *listeners = [clients.enter_context(Client(*address)) for _ in range(count + 1)]
+        for client in (other, *listeners):
             client.socket.settimeout(SECONDS)
         other.declare("Job", k="int")
-        for _ in range(16):
-            late.notify("a", entry("Job"), lease=LONGEST)
+        for listener in listeners:
+            for _ in range(16):
+                listener.notify("a", entry("Job"), lease=LONGEST)
         entries = [entry("Job", k=1)] * 64
         for _ in range(600):
             other.call("write_all", space="a", entries=entries, lease=1)
-        told = 0
-        try:
-            while late.event(SECONDS):
-                told += 1
-        except ConnectionError:
-            pass
-        assert 0 < told < 16 * 64 * 600
+        for listener in listeners:
+            assert 0 < heard(listener) < 16 * 64 * 600
     is_served(address)
+
+
+def heard(listener):
+    """How many events the client can read until its connection ends."""
+    told = 0
+    try:
+        while listener.event(SECONDS):
+            told += 1
+    except ConnectionError:
+        pass
+    return told
+
+
+def never_reads_its_events(address):
+    silent_listeners(address, 1)
+
+
+def three_never_read_their_events(address):
+    """The same acts bring too many answers for each of them."""
+    silent_listeners(address, 3)
 
 
 CASES = {
@@ -230,6 +242,7 @@ CASES = {
     pipelines: (2, 1024, "unlimited", ""),
     never_reads: (2, 1024, "unlimited", ""),
     never_reads_its_events: (3, 1024, "unlimited", "--backlog 5000"),
+    three_never_read_their_events: (5, 1024, "unlimited", "--backlog 5000"),
     three_hundred_at_once: (301, 1024, "unlimited", ""),
     more_than_the_descriptors: (61, 40, "unlimited", ""),
     idles: (4, 1024, "unlimited", "--idle 1"),

@@ -104,12 +104,26 @@ def one_who_reads_late(address):
             assert late.event(SECONDS).seq == number
 
 
+def one_who_never_reads_delays_nobody(address):
+    """The first is told more than its connection holds, and reads none of it. Another, who came after it, is told all the
+    while."""
+    with connect(address) as late, connect(address) as told, connect(address) as writer:
+        writer.declare("Job", k="int")
+        late.notify("a", entry("Job"), lease=LONGEST, handback="h" * 256)
+        told.notify("a", entry("Job"), lease=LONGEST)
+        for first in range(0, 12_800, 64):
+            write_all(writer, range(first, first + 64))
+            for number in range(first + 1, first + 65):
+                assert told.event(SECONDS).seq == number
+
+
 CASES = {
     a_wait_ends_by_the_clock_alone: 1,
     each_line_is_woken: 41,
     whom_an_act_answers_is_woken_by_it: 2,
     events_go_out_before_the_end: 1,
     one_who_reads_late: 2,
+    one_who_never_reads_delays_nobody: 3,
 }
 
 if __name__ == "__main__":

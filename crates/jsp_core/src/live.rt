@@ -82,6 +82,13 @@ impl LiveImage {
         &self.state
     }
 
+    /// A session that was told something since it was named here, while there is one. Nothing else changes.
+    pub fn next_told(&mut self) -> Option<u64>
+        ensures { self.new ≡ self.old }
+    {
+        next_told(&mut self.state)
+    }
+
     /// Whether any space has a decision that it hasn't applied, or any registration is to be told what a
     /// commit tells it.
     pub fn has_pending(&self) -> bool {
@@ -110,6 +117,13 @@ impl LiveImage {
     {
         apply_all(&mut self.state);
     }
+}
+
+fn next_told(state: &mut Core) -> Option<u64>
+    ensures { state.new ≡ state.old }
+{
+    let outboxes = &mut state.outboxes;
+    outboxes.next_told()
 }
 
 fn apply_in(state: &mut Core, space: u64)

@@ -212,4 +212,8 @@ impl<K> Backlog for StateHouse<K> {
             match_sets: state.sets.count_in(space) as u64,
         }
     }
+
+    fn next_told(&mut self) -> Option<u64> {
+        self.image.next_told()
+    }
 }

@@ -6,7 +6,7 @@ ghost use Rattle.jsp_model.specs.House.{Makes, shuts, next_waiting, awaits_decis
 ghost use Rattle.jsp_kept.specs.History.{IsKept, new_history};
 ghost use Rattle.jsp_kept.specs.Calls.{KeepsEra, KeepsAsks, KeepsOuts, Seals};
 
-use crate::aside::{free_some, set_aside};
+use crate::aside::{set_aside, take_some};
 use jsp_drive::Era;
 use jsp_model::{Backlog, Config, House, SpaceCounts, Step, TransactionCounts};
 use jsp_types::{NoMemory, Text};
@@ -20,7 +20,7 @@ pub struct Kept<H: House, A: Ledger, O: Ledger> {
     pub(crate) house: H,
     pub(crate) config: Config,
     pub(crate) log: Vec<Step>,
-    /// Steps of the era before, which are freed a few at a time.
+    /// Steps of the era before, which are taken a few at a time.
     pub(crate) gone: Vec<Step>,
     pub(crate) asked: Vec<u64>,
     pub(crate) taken: Vec<u64>,
@@ -126,12 +126,13 @@ impl<H: House, A: Ledger, O: Ledger> Kept<H, A, O> {
         })
     }
 
-    /// Frees a few of the steps of an era that is over, where some are left. Nothing else changes. To be called with
-    /// each call that makes steps.
-    pub fn free_some(&mut self)
+    /// Moves a few of the steps of an era that is over to a vector, as many as that has room for, where some are left, so
+    /// that the caller frees them where nobody waits for it. Nothing else changes. To be called with each call that makes
+    /// steps, with room for `MOST_OLD`.
+    pub fn take_old(&mut self, old: &mut Vec<Step>)
         ensures { self.new ≡ self.old }
     {
-        free_some(&mut self.gone);
+        take_some(&mut self.gone, old);
     }
 
     /// What is true of every history.
@@ -244,6 +245,13 @@ impl<H: House, A: Ledger, O: Ledger> Kept<H, A, O> {
 }
 
 impl<H: Backlog, A: Ledger, O: Ledger> Kept<H, A, O> {
+    /// A session that was told something since it was named here, while there is one. Nothing else changes.
+    pub fn next_told(&mut self) -> Option<u64>
+        ensures { self.new ≡ self.old }
+    {
+        self.house.next_told()
+    }
+
     /// How many answers wait to be handed out to the session.
     pub fn waiting(&self, session: u64) -> u64
         ensures { result ≡ length (outbox_of self.now.state session) }

@@ -18,6 +18,7 @@ mod seats;
 mod through;
 mod turns;
 
+pub use aside::MOST_OLD;
 pub use jsp_drive::LineInput;
 // What is asked of its house, so that its callers name one crate.
 pub use jsp_model::{Backlog, SpaceCounts, TransactionCounts};

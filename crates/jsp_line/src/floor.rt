@@ -9,7 +9,7 @@ use crate::locked::{Left, Locked};
 use crate::notes::ShutFor;
 use jsp_drive::LineInput;
 use jsp_kept::{AskSeat, Backlog, Kept, OutSeat};
-use jsp_model::{Settled, Stopped};
+use jsp_model::{Settled, Step, Stopped};
 use jsp_reply::{Refusal, Reply, Said};
 use jsp_types::NoMemory;
 use std::alloc::Global;
@@ -48,6 +48,8 @@ pub struct Floor<H: Backlog, A: Ledger, O: Ledger> {
     bytes: AtomicU64,
     most_bytes: u64,
     most_waiting: u64,
+    /// Whether an act may have left sessions open for which too many answers wait. It is set under the lock.
+    are_more_over: AtomicBool,
     /// Whether all lines have ended. It is set under the lock.
     ended: AtomicBool,
     /// Whether an era is known to be sealed, and lines keep no bytes. It is set under the lock.
@@ -175,6 +177,7 @@ impl<H: Backlog, A: Ledger, O: Ledger> Floor<H, A, O> {
             bytes: AtomicU64::new(0),
             most_bytes,
             most_waiting,
+            are_more_over: AtomicBool::new(false),
             ended: AtomicBool::new(false),
             is_sealed: AtomicBool::new(false),
             refusals: zeros(alloc)?,
@@ -223,30 +226,57 @@ impl<H: Backlog, A: Ledger, O: Ledger> Floor<H, A, O> {
         self.bytes.store(left, Ordering::SeqCst);
     }
 
-    // Wakes each line that has answers waiting, but that of the session whose own thread takes them. The first for which
-    // too many wait is shut, and answered: its client reads none, and holds up nobody else. The lock is held.
+    // Wakes the line of each session that was told something since they were woken last and has answers waiting, but
+    // that of the session whose own thread takes them. The first for which too many wait is shut, and answered: its
+    // client reads none, and holds up nobody else. Others are shut at the next acts. The lock is held.
     fn wake_lines<T: Wait>(
         &self,
         rt: &T,
         locked: &mut Locked<H, A, O>,
         own: Option<u64>,
     ) -> Option<u64> {
-        let mut shut = None;
-        let mut after = 0;
+        let mut shut = self.shut_left_over(rt, locked);
         for _ in rt.forever() {
-            let Some(session) = locked.kept.next_waiting(after) else {
+            let Some(session) = locked.kept.next_told() else {
                 break;
             };
-            if shut.is_none() && self.is_over(&locked.kept, session) {
-                locked.shut_for(session, ShutFor::Backlog);
-                shut = Some(session);
+            if locked.kept.waiting(session) == 0 {
+                continue;
+            }
+            if self.is_over(&locked.kept, session) {
+                if shut.is_none() {
+                    locked.shut_for(session, ShutFor::Backlog);
+                    shut = Some(session);
+                } else {
+                    self.are_more_over.store(true, Ordering::SeqCst);
+                }
             }
             if own != Some(session) {
                 self.signal(session).notify_all();
             }
-            after = session;
         }
         shut
+    }
+
+    // Where an act left sessions open for which too many answers wait, the first is shut, and answered. The lock is held.
+    fn shut_left_over<T: Wait>(&self, rt: &T, locked: &mut Locked<H, A, O>) -> Option<u64> {
+        if !self.are_more_over.load(Ordering::SeqCst) {
+            return None;
+        }
+        let mut after = 0;
+        for _ in rt.forever() {
+            let Some(session) = locked.kept.next_waiting(after) else {
+                self.are_more_over.store(false, Ordering::SeqCst);
+                return None;
+            };
+            if self.is_over(&locked.kept, session) {
+                locked.shut_for(session, ShutFor::Backlog);
+                self.signal(session).notify_all();
+                return Some(session);
+            }
+            after = session;
+        }
+        unreachable!()
     }
 
     // Whether more answers wait for the session than may.
@@ -311,7 +341,7 @@ impl<H: Backlog, A: Ledger, O: Ledger> Floor<H, A, O> {
     /// An act of a line, which read and wrote so many bytes since its last one, and its next answers, in one hold of
     /// the lock, after this reading of the clock, where it is a later one. All lines that have answers waiting then are
     /// woken, and the settling worker where the act was stopped. Where a transaction votes then, its turns are the
-    /// caller's to take.
+    /// caller's to take. So are steps of an era that is over, as many as there is room for, to be freed.
     pub(crate) fn act_and_take<T: Wait>(
         &self,
         rt: &T,
@@ -320,6 +350,7 @@ impl<H: Backlog, A: Ledger, O: Ledger> Floor<H, A, O> {
         bytes: u64,
         given: LineInput,
         outs: &mut OutSeat<O>,
+        old: &mut Vec<Step>,
     ) -> Held
         requires { IsTrue (is_line_input given) }
         ensures asks { Asks asks.old asks.new }
@@ -328,7 +359,7 @@ impl<H: Backlog, A: Ledger, O: Ledger> Floor<H, A, O> {
         let mut guard = self.lock(rt);
         let locked = &mut *guard;
         self.weigh(&mut locked.kept, bytes);
-        locked.kept.free_some();
+        locked.kept.take_old(old);
         let mut held = hold(&mut locked.kept, asks, self.later(time), given, outs);
         self.note_refusals(&held.said);
         held.shut = self.wake_lines(rt, locked, None);
@@ -419,11 +450,18 @@ impl<H: Backlog, A: Ledger, O: Ledger> Floor<H, A, O> {
     }
 
     /// A settle turn, after this reading of the clock, where it is a later one. All lines that have answers
-    /// waiting then are woken, but that of the caller's own session, where it has one and takes them itself.
-    pub(crate) fn settle<T: Wait>(&self, rt: &T, time: u64, own: Option<u64>) -> Turned {
+    /// waiting then are woken, but that of the caller's own session, where it has one and takes them itself. Steps of an
+    /// era that is over are the caller's to free, as many as there is room for.
+    pub(crate) fn settle<T: Wait>(
+        &self,
+        rt: &T,
+        time: u64,
+        own: Option<u64>,
+        old: &mut Vec<Step>,
+    ) -> Turned {
         let mut guard = self.lock(rt);
         let locked = &mut *guard;
-        locked.kept.free_some();
+        locked.kept.take_old(old);
         let settled = settle_at(&mut locked.kept, self.later(time));
         Turned {
             settled,
@@ -467,6 +505,7 @@ impl<H: Backlog, A: Ledger, O: Ledger> Floor<H, A, O> {
             bytes: _,
             most_bytes: _,
             most_waiting: _,
+            are_more_over: _,
             ended: _,
             is_sealed: _,
             refusals: _,

@@ -14,8 +14,8 @@ use crate::counted::Counted;
 use crate::floor::{Floor, Held};
 use crate::transcript::Transcript;
 use jsp_drive::{LineInput, encode};
-use jsp_kept::{AskSeat, Backlog, OutSeat};
-use jsp_model::{Stopped, Why};
+use jsp_kept::{AskSeat, Backlog, MOST_OLD, OutSeat};
+use jsp_model::{Step, Stopped, Why};
 use jsp_reply::Said;
 use jsp_types::NoMemory;
 use std::alloc::Global;
@@ -82,6 +82,8 @@ pub struct OutHalf<O: Ledger, W: Write, S: Start> {
     told: u64,
     /// How many bytes went through it since the house was told of them.
     bytes: u64,
+    /// Steps of an era that is over, which acts of the line took out of the house. They are freed behind the next write.
+    past: Vec<Step>,
     of: PhantomData<S>,
 }
 
@@ -294,6 +296,7 @@ impl<O: Ledger, W: Write, S: Start> OutHalf<O, W, S> {
             sent: 0,
             told: 0,
             bytes: 0,
+            past: Vec::new(alloc),
             of: PhantomData,
         }
     }
@@ -314,6 +317,8 @@ impl<O: Ledger, W: Write, S: Start> OutHalf<O, W, S> {
         ensures session { self.new.seat.session ≡ self.old.seat.session }
     {
         self.bytes = self.bytes.saturating_add(read);
+        // Without memory for it no steps are freed.
+        let _ = self.past.reserve(MOST_OLD);
         let mut acted = self.act_and_take(rt, floor, asks, time, given);
         if is_refused(&acted.received) {
             acted.received = self.take(rt, floor);
@@ -344,7 +349,15 @@ impl<O: Ledger, W: Write, S: Start> OutHalf<O, W, S> {
             is_sealed,
             is_voting,
             shut,
-        } = floor.act_and_take(rt, asks, time, self.bytes, given, &mut self.seat);
+        } = floor.act_and_take(
+            rt,
+            asks,
+            time,
+            self.bytes,
+            given,
+            &mut self.seat,
+            &mut self.past,
+        );
         self.bytes = 0;
         let received = receive(
             rt,
@@ -427,6 +440,7 @@ impl<O: Ledger, W: Write, S: Start> OutHalf<O, W, S> {
         ensures written { is_sound self.new.health ≡ true → self.new.pile ≡ [] }
     {
         self.write_pile();
+        self.past.clear();
         let above = self.told;
         self.told = self.sent;
         Sent {
@@ -452,6 +466,7 @@ impl<O: Ledger, W: Write, S: Start> OutHalf<O, W, S> {
             sent: _,
             told: _,
             bytes: _,
+            past: _,
             of: _,
         } = self;
         OutDone {

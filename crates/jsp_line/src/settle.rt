@@ -2,7 +2,7 @@
 use crate::gate::{Clock, Gate};
 use crate::half::{OutHalf, Start};
 use crate::shared::Shared;
-use jsp_kept::Backlog;
+use jsp_kept::{Backlog, MOST_OLD};
 use jsp_model::{Settled, Why};
 use std::io::Write;
 use std::sync::ledger::Ledger;
@@ -25,10 +25,14 @@ impl<H: Backlog, A: Ledger, O: Ledger, G: Gate, C: Clock, T: Wait + time::Clock>
     /// that finds no memory is taken again. Meanwhile it counts where that is wanted, and tells the
     /// lines of the first seal.
     pub fn settle_worker(&self) -> Option<Why> {
+        let mut old = Vec::new(self.alloc);
         for _ in self.rt.forever() {
             self.count_where_wanted();
             self.floor.tell_of_seal(self.rt);
-            let turned = self.floor.settle(self.rt, self.clock.now(), None);
+            // Without memory for it no steps are freed.
+            let _ = old.reserve(MOST_OLD);
+            let turned = self.floor.settle(self.rt, self.clock.now(), None, &mut old);
+            old.clear();
             self.cut(turned.shut);
             match turned.settled {
                 Ok(Settled::Idle) if turned.ended => break,
@@ -60,8 +64,11 @@ impl<H: Backlog, A: Ledger, O: Ledger, G: Gate, C: Clock, T: Wait + time::Clock>
         half: &Mutex<OutHalf<O, W, S>>,
         session: u64,
     ) -> Result<(), Why> {
+        let mut none = Vec::new(self.alloc);
         for _ in 0..TURNS {
-            let turned = self.floor.settle(self.rt, self.clock.now(), Some(session));
+            let turned = self
+                .floor
+                .settle(self.rt, self.clock.now(), Some(session), &mut none);
             self.cut(turned.shut);
             if turned.settled.is_err() {
                 break;

@@ -22,6 +22,13 @@ pub trait Backlog: House {
         ensures waiting { result.waiting ≡ length (filter (λ b. b.space == space) (Self.view self.now).blocked) }
         ensures registrations { result.registrations ≡ length (filter (λ r. r.space == space) (Self.view self.now).registrations) }
         ensures match_sets { result.match_sets ≡ length (filter (λ m. m.space == space) (Self.view self.now).sets) };
+
+    /// A session that was told something since it was named here, while there is one, so that its line is
+    /// woken. More may be named, and one that has no answers waiting by now. Nothing else changes.
+    fn next_told(&mut self) -> Option<u64>
+        ensures view { Self.view self.new ≡ Self.view self.old }
+        ensures debt { Self.debt self.new ≡ Self.debt self.old }
+        ensures bound { Self.bound_of self.new ≡ Self.bound_of self.old };
 }
 
 /// How many transactions there are, and how many of them vote.

@@ -7,6 +7,7 @@ ghost use Rattle.jsp_outbox.specs.Outboxes.{before, before_all, answers_for};
 use crate::copy::{outboxes_of, queues_of};
 use crate::post::{Posted, post, take_back};
 use crate::queue::Queue;
+use crate::told::Told;
 use crate::{find, hand_out};
 use jsp_model::Outbox;
 use jsp_reply::Said;
@@ -18,6 +19,7 @@ use std::marker::Model;
 #[derive(Drop)]
 pub struct Outboxes {
     queues: Vec<Queue>,
+    told: Told,
 }
 
 impl Model for Outboxes {
@@ -39,6 +41,7 @@ impl Outboxes {
     {
         Outboxes {
             queues: Vec::new(alloc),
+            told: Told::new(alloc),
         }
     }
 
@@ -48,7 +51,8 @@ impl Outboxes {
         ensures { IfOk result (λ c. c ≡ outboxes) }
     {
         let queues = queues_of(outboxes)?;
-        Ok(Outboxes { queues })
+        let told = Told::all(*queues.allocator());
+        Ok(Outboxes { queues, told })
     }
 
     /// A plain copy of these outboxes.
@@ -65,7 +69,9 @@ impl Outboxes {
         ensures ok { IfOk result (λ p. (self.new ≡ posted self.old (session, said)) × (before p self.new ≡ self.old)) }
         ensures err { OnErr result (self.new ≡ self.old) }
     {
-        post(alloc, &mut self.queues, session, said)
+        let posted = post(alloc, &mut self.queues, session, said)?;
+        self.told.note(session);
+        Ok(posted)
     }
 
     /// Takes back the answer that was posted last. Takes no memory.
@@ -144,6 +150,14 @@ impl Outboxes {
     }
 
     // ---- find
+
+    /// A session that was told something since it was named here, while there is one. Where very many were,
+    /// each that has an outbox is named. It may have none by now. Nothing else changes.
+    pub fn next_told(&mut self) -> Option<u64>
+        ensures { self.new ≡ self.old }
+    {
+        self.told.next(self.queues.as_slice())
+    }
 
     /// How many answers wait for the session.
     pub fn waiting(&self, session: u64) -> u64

@@ -1,4 +1,4 @@
-//! Each call that takes memory, once, with memory to spare.
+//! Each call that takes memory, once, with memory to spare, and whom `next_told` names.
 use jsp_outbox::Outboxes;
 use jsp_reply::{Reply, Said};
 use std::test::Fail;
@@ -26,5 +26,31 @@ fn outboxes_are_copied_and_made_again(rt: HostRuntime) -> Result<(), Fail> {
     let _posted = outboxes.post(rt.alloc(), 1, done(5))?;
     let again = Outboxes::of(outboxes.to_items(rt.alloc())?)?;
     assert_eq!(rt; again.next_after(0), Some(1));
+    Ok(())
+}
+
+#[test]
+fn whom_something_is_told_is_named_once_for_it(rt: HostRuntime) -> Result<(), Fail> {
+    let mut outboxes = Outboxes::new(rt.alloc());
+    let _posted = outboxes.post(rt.alloc(), 1, done(5))?;
+    let _posted = outboxes.post(rt.alloc(), 2, done(6))?;
+    assert_eq!(rt; outboxes.next_told(), Some(2));
+    assert_eq!(rt; outboxes.next_told(), Some(1));
+    assert_eq!(rt; outboxes.next_told(), None);
+    let _posted = outboxes.post(rt.alloc(), 1, done(7))?;
+    assert_eq!(rt; outboxes.next_told(), Some(1));
+    assert_eq!(rt; outboxes.next_told(), None);
+    Ok(())
+}
+
+#[test]
+fn very_many_to_whom_something_is_told_are_all_named(rt: HostRuntime) -> Result<(), Fail> {
+    let mut outboxes = Outboxes::new(rt.alloc());
+    for session in 1..=2_000 {
+        let _posted = outboxes.post(rt.alloc(), session, done(session))?;
+    }
+    for session in 1..=2_000 {
+        assert_eq!(rt; outboxes.next_told(), Some(session));
+    }
     Ok(())
 }
