@@ -13,6 +13,7 @@ import socket
 import struct
 import subprocess
 import sys
+import time
 from pathlib import Path
 
 sys.path.insert(0, str(Path(__file__).parent.parent / "examples" / "clients"))
@@ -44,6 +45,14 @@ def seconds(process):
     return (int(fields[11]) + int(fields[12])) / TICK
 
 
+def rest(process):
+    """Waits until the process does next to nothing."""
+    before, now = -1.0, seconds(process)
+    while now - before > 2 / TICK:
+        time.sleep(0.5)
+        before, now = now, seconds(process)
+
+
 def measure(server, count):
     host, port = server.stdout.readline().split()[1].decode().rsplit(":", 1)
     address = host, int(port)
@@ -53,6 +62,7 @@ def measure(server, count):
         for first in range(0, WRITTEN if count else 0, BATCH):
             batch = [entry("Job", k=value) for value in range(first, first + BATCH)]
             jsp.call("write_all", space="a", entries=batch, lease=FOREVER)
+        rest(server)
         before = seconds(server)
         for _ in range(ASKED):
             jsp.spaces()
