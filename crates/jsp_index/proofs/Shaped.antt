@@ -14,7 +14,7 @@ use Rattle.jsp_types.specs.declared.entry.Template.TheVariants.{Like}
 use Rattle.jsp_types.specs.Classes.{is_sub}
 use Rattle.jsp_types.specs.Matching.{is_null, value_eq, value_at, matches}
 use Rattle.jsp_model.specs.declared.state.Row.{Row}
-use Rattle.jsp_table.specs.Numbers.{contains, names}
+use Rattle.jsp_table.specs.Numbers.{contains}
 use Rattle.jsp_table.proofs.Finding.{each, both}
 use Rattle.jsp_keyed.proofs.Named.{All-append}
 use Rattle.jsp_keys.specs.Keys.{number_key, space_key, field_key}
@@ -25,6 +25,7 @@ use Rattle.jsp_index.specs.Finding.{number, is_like}
 use Rattle.jsp_index.specs.Shapes.{key_of_values, is_learned, IsNamedBy, IsShaped, IsNamedByAll, AreShaped}
 use Rattle.jsp_index.proofs.Covering.{and_both, eqb_eq, same_value}
 use Rattle.jsp_index.proofs.Holders.{all_filtered}
+use Rattle.jsp_table.specs.Hints.{names}
 
 -- ---- lists of shapes
 

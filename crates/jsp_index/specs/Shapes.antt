@@ -4,7 +4,7 @@ use Rattle.std.specs.List.{AllByRecursion}
 use Rattle.jsp_types.specs.declared.value.Value.{Value}
 use Rattle.jsp_types.specs.Matching.{is_null, value_at}
 use Rattle.jsp_model.specs.declared.state.Row.{Row}
-use Rattle.jsp_table.specs.Numbers.{names}
+use Rattle.jsp_table.specs.Hints.{names}
 use Rattle.jsp_keys.specs.Keys.{number_key, space_key, field_key}
 use Rattle.jsp_index.specs.declared.shape.Shape.{Shape}
 

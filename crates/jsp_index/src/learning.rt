@@ -12,7 +12,7 @@ use jsp_types::{Text, Value};
 pub(crate) const MANY: usize = 256;
 
 /// How many rows a search may well look at.
-const FEW: usize = 32;
+pub(crate) const FEW: usize = 32;
 
 impl HintedRows {
     /// Rows of the space were searched for by a template of these fields, and the last that was found

@@ -14,7 +14,7 @@ use crate::both::first_in_both;
 use crate::by_number::{ByNumber, Rows};
 use crate::choosing::rarest_field;
 use crate::keyed::{KeyedRows, Listed};
-use crate::learning::MANY;
+use crate::learning::{FEW, MANY};
 use crate::seeing::seen_in;
 use crate::seeking::{OfClass, OfField};
 use crate::starts::Unseen;
@@ -189,7 +189,8 @@ impl KeyedRows {
     }
 
     /// The first row of the space that passes the test and is like the template: it is looked for in
-    /// the shortest list of a field's value or, where no field has one, in those of classes.
+    /// the shortest list of a field's value or, where no field has one or its class is rarer, in those
+    /// of classes.
     fn first_by_field<P: Test<Row>>(
         &self,
         classes: &Classes,
@@ -207,9 +208,19 @@ impl KeyedRows {
             None => self.first_of_classes(classes, space, like, behind, test),
             Some(field) => {
                 let listed = self.listed(&OfField { space, field }, behind.unseen);
+                if self.has_fewer(classes, space, like.class.as_str(), listed.numbers.len()) {
+                    return self.first_of_classes(classes, space, like, behind, test);
+                }
                 self.first_listed(&listed, behind, test)
             }
         }
+    }
+
+    /// Whether the space has fewer rows of a class that none is below, where many stand against it.
+    fn has_fewer(&self, classes: &Classes, space: u64, class: &str, many: usize) -> bool {
+        many > FEW
+            && classes.below(class).is_empty()
+            && self.rows.numbers_under(&OfClass { space, class }).len() < many
     }
 
     /// The first row that passes the test, which only rows of the space pass that are like one of the

@@ -3,21 +3,21 @@ ghost use Rattle.std.specs.Prelude.{◌≡◌, ◌==◌, ℕ, List, true, false,
 ghost use Rattle.jsp_types.specs.declared.class.Class.{Class as OfClass};
 ghost use Rattle.jsp_types.specs.declared.entry.Template.TheVariants.{Like};
 ghost use Rattle.jsp_table.specs.Finding.{AreNamed};
-ghost use Rattle.jsp_table.specs.Numbers.{contains, names};
+ghost use Rattle.jsp_table.specs.Numbers.{contains};
 ghost use Rattle.jsp_index.specs.Finding.{number as number_of, is_like};
 ghost use Rattle.jsp_types.specs.Matching.{value_at};
 ghost use Rattle.jsp_model.specs.declared.state.Row.{Row as OfRow};
 ghost use Rattle.jsp_index.specs.Shapes.{key_of_values as values_key, some_value, is_learned, IsNamedBy, IsShaped};
+ghost use Rattle.jsp_table.specs.Hints.{names};
 
 use crate::NoMemory;
 use crate::asking::InSpace;
 use crate::by_number::Rows;
 use jsp_keys::{key_of_field, key_of_number, key_of_space};
 use jsp_model::Row;
-use jsp_table::{Hints, Numbers, add_hint, drop_hint};
+use jsp_table::{Hints, Numbers};
 use jsp_types::{Entry, Items, Text, Value};
 use std::alloc::Global;
-use std::collections::HashMap;
 
 /// How many rows are learned at a call.
 const PART: usize = 64;
@@ -49,7 +49,7 @@ impl Shape {
         Ok(Shape {
             space,
             names: names_of(alloc, fields)?,
-            hints: HashMap::new(alloc),
+            hints: Hints::new(alloc),
             below: 0,
             is_whole: false,
             asked: call,
@@ -111,7 +111,7 @@ impl Shape {
         let Some(key) = self.key_of(seed, row) else {
             return;
         };
-        if add_hint(alloc, &mut self.hints, key, row.number).is_err() {
+        if self.hints.add(key, row.number).is_err() {
             self.forget(alloc);
         }
     }
@@ -122,7 +122,7 @@ impl Shape {
     {
         self.is_whole = false;
         self.below = 0;
-        self.hints = HashMap::new(alloc);
+        self.hints = Hints::new(alloc);
     }
 
     /// Takes a row that goes from its list, if it has learned where that is. Takes no memory.
@@ -135,7 +135,7 @@ impl Shape {
         let Some(key) = self.key_of(seed, row) else {
             return;
         };
-        drop_hint(&mut self.hints, key, row.number);
+        self.hints.remove(key, row.number);
     }
 
     /// Learns more of the rows, in their order. Where memory is refused it begins anew.
@@ -171,7 +171,7 @@ impl Shape {
 fn numbers_at<'a>(hints: &'a Hints, none: &'a Numbers, key: u64) -> &'a Numbers
     ensures { (n : ℕ) → names hints.now key n ≡ true → contains result.now n ≡ true }
 {
-    match hints.get(&key) {
+    match hints.get(key) {
         None => none,
         Some(numbers) => numbers,
     }

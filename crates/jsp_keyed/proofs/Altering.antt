@@ -1,12 +1,12 @@
 -- What is named and ended stays so where a thing changes.
 use Rattle.std.proofs.Common.{◌≡◌, ℕ, ◌<◌, Bool, true, false, cond, eqb, List, [], ◌∷◌, map, refl, ap, sym, ◌∙◌, subst}
 use Rattle.std.specs.List.{AllByRecursion}
-use Rattle.std.specs.HashMap.{HashMap}
 use Rattle.jsp_lease.specs.declared.item.Item.{Item}
 use Rattle.jsp_lease.specs.declared.item.Rank.{Rank}
 use Rattle.jsp_lease.specs.Leases.{Leased, ending_at}
 use Rattle.jsp_keyed.specs.Kept.{IsNamed, AreKeyed, item_of}
 use Rattle.jsp_keyed.specs.Changing.{HasSameKeys, HasOnlyNewEnd}
+use Rattle.jsp_table.specs.declared.hints.Hints.{Hints}
 
 module _ {T : Type 0} (num : T → ℕ) (f : T → T) where
   -- the thing of that number, changed
@@ -50,7 +50,7 @@ module _ {T : Type 0} (num : T → ℕ) (keys_of : ℕ → T → List ℕ) (end_
     at true = same_item (keep x).ends (keep x).number
     at false = refl
 
-  module _ {S : Type 0} (seed : ℕ) (hints : HashMap ℕ (List ℕ) S) where
+  module _ (seed : ℕ) (hints : Hints) where
     same_named : (x new : T) → num new ≡ num x → keys_of seed new ≡ keys_of seed x → IsNamed hints (num x) (keys_of seed x) → IsNamed hints (num new) (keys_of seed new)
     same_named x new number keys h = rw (number, keys) h
 

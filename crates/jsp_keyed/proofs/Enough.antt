@@ -1,14 +1,13 @@
 -- What is named under enough keys is named under one whose list isn't passed over.
 use Rattle.std.proofs.Common.{◌≡◌, ℕ, suc, ◌<◌, ◌≤◌, Bool, true, false, not, cond, ◌&&◌, ◌||◌, nat_lt, List, [], ◌∷◌, length, map, Option, Some, None, refl, ap, sym, ◌∙◌, subst, arith, inl, inr}
-use Rattle.std.specs.Prelude.{filter, nat_le, nat_eq, Result, Ok, Err, OnOk}
+use Rattle.std.specs.Prelude.{filter, nat_le, Result, Ok, Err, OnOk}
 use Rattle.std.specs.List.{AllByRecursion, list_any}
 use Rattle.std.specs.Option.{option_map_or}
-use Rattle.std.specs.HashMap.{HashMap, get}
 use Rattle.std.proofs.lemmas.Bool.Decides.{nat_tests}
 use Rattle.jsp_types.specs.declared.value.Value.{Value}
 use Rattle.jsp_types.specs.declared.class.Class.{Class}
 use Rattle.jsp_types.specs.declared.entry.Entry.{Entry}
-use Rattle.jsp_table.specs.Numbers.{contains, names}
+use Rattle.jsp_table.specs.Numbers.{contains}
 use Rattle.jsp_table.proofs.Rising.{or_cases}
 use Rattle.jsp_keys.specs.Keys.{mix, several_key, count_key}
 use Rattle.jsp_keys.specs.Templates.{entry_keys, value_keys, several_keys, seeks_several, seeks}
@@ -17,6 +16,8 @@ use Rattle.jsp_keyed.specs.Kept.{IsNamed}
 use Rattle.jsp_keyed.proofs.Walking.{and_both}
 use Rattle.jsp_keyed.proofs.Sought.{or_second}
 use Rattle.jsp_keyed.proofs.Named.{named_under, sought_named}
+use Rattle.jsp_table.specs.Hints.{list_of, names}
+use Rattle.jsp_table.specs.declared.hints.Hints.{Hints}
 
 pub up_to : (a b : ℕ) → nat_le a b ≡ true → a ≤ b
 up_to a b h = grind (arith, nat_tests)
@@ -73,11 +74,11 @@ pub none_fails : (ks : List ℕ) → filter (λ k. false) ks ≡ []
 none_fails [] = refl
 none_fails (k ∷ ks) = none_fails ks
 
-module _ {S : Type 0} (hints : HashMap ℕ (List ℕ) S) where
+module _ (hints : Hints) where
   -- ---- what isn't passed over
 
   pub none_under : (key n : ℕ) → nat_lt 0 (length_under hints key) ≡ false → names hints key n ≡ false
-  none_under key n none = at (get nat_eq hints key) none where
+  none_under key n none = at (list_of hints key) none where
     some : (m : ℕ) → nat_lt 0 (suc m) ≡ true
     some m = grind (arith, nat_tests)
 
@@ -118,15 +119,15 @@ module _ {S : Type 0} (hints : HashMap ℕ (List ℕ) S) where
         below f g = omega arith
 
   -- so it is where the keys are made from those of the values
-  pub found_in_lists : (limit : Option ℕ) (seed count space : ℕ) (fields : List (List ℕ × Value)) (n : ℕ) (listed : HashMap ℕ (List ℕ) S) (many : ℕ) (values : List ℕ) → listed ≡ hints → many ≡ count → values ≡ value_keys seed space fields
+  pub found_in_lists : (limit : Option ℕ) (seed count space : ℕ) (fields : List (List ℕ × Value)) (n : ℕ) (listed : Hints) (many : ℕ) (values : List ℕ) → listed ≡ hints → many ≡ count → values ≡ value_keys seed space fields
       → length (filter (is_longer listed limit) (map (λ k. mix k many) values)) < many → are_named hints seed space fields n count ≡ true → list_any (λ k. names hints k n) (map (looked_under listed limit) (map (λ k. mix k many) values)) ≡ true
   found_in_lists limit seed count space fields n listed many values is_hints is_count is_values few h =
       let keys = several_keys seed count space fields in
       let made : map (λ k. mix k many) values ≡ keys = ap (λ (m : ℕ). map (λ k. mix k m) values) is_count ∙ (ap (map (λ k. mix k count)) is_values ∙ mixed_keys seed count space fields) in
       let fewer = subst (λ (m : ℕ). length (filter (is_longer hints limit) keys) < m) is_count
-      (subst (λ (w : HashMap ℕ (List ℕ) S). length (filter (is_longer w limit) keys) < many) is_hints (subst (λ (ks : List ℕ). length (filter (is_longer listed limit) ks) < many) made few)) in
+      (subst (λ (w : Hints). length (filter (is_longer w limit) keys) < many) is_hints (subst (λ (ks : List ℕ). length (filter (is_longer listed limit) ks) < many) made few)) in
       subst (λ (ks : List ℕ). list_any (λ k. names hints k n) (map (looked_under listed limit) ks) ≡ true) (sym made)
-      (subst (λ (w : HashMap ℕ (List ℕ) S). list_any (λ k. names hints k n) (map (looked_under w limit) keys) ≡ true) (sym is_hints) (still_found limit seed count space fields n fewer h))
+      (subst (λ (w : Hints). list_any (λ k. names hints k n) (map (looked_under w limit) keys) ≡ true) (sym is_hints) (still_found limit seed count space fields n fewer h))
 
   pub not_named : (seed space : ℕ) (fields : List (List ℕ × Value)) (n count : ℕ) → nat_lt 0 (length_under hints (count_key seed count space)) ≡ false → are_named hints seed space fields n count ≡ false
   not_named seed space fields n count none = rw (none_under (count_key seed count space) n none) refl

@@ -2,7 +2,6 @@
 use Rattle.std.proofs.Common.{◌≡◌, ◌≢◌, ℕ, ◌<◌, Bool, true, false, not, cond, eqb, List, [], ◌∷◌, ◌++◌, map, Option, Some, None, Result, Ok, Err, ok_or, refl, ap, sym, ◌∙◌, inl, inr, ◌+◌, length, take, get_or, subst, arith}
 use Rattle.std.specs.Prelude.{OnOk, OnErr, IfSome}
 use Rattle.std.specs.List.{AllByRecursion}
-use Rattle.std.specs.HashMap.{HashMap}
 use Rattle.std.proofs.lemmas.Bool.{cases_eq, eq-eqb, ne_eqb}
 use Rattle.std.proofs.lemmas.List.{map-append, take_more}
 use Rattle.jsp_lease.specs.declared.item.Item.{Item}
@@ -14,6 +13,7 @@ use Rattle.jsp_table.specs.Finding.{numbered, without, AreNumbered}
 use Rattle.jsp_table.proofs.Finding.{both, each, found_number}
 use Rattle.jsp_keyed.specs.Kept.{IsNamed, AreNamed, Keeps, KeepsOthers, AreKeyed, item_of}
 use Rattle.jsp_keyed.proofs.Named.{All-append, still_named}
+use Rattle.jsp_table.specs.declared.hints.Hints.{Hints}
 
 -- ---- an item goes
 
@@ -59,8 +59,8 @@ module _ {T : Type 0} (num : T → ℕ) (keys_of : ℕ → T → List ℕ) (end_
     at true rest = rest
     at false rest = ap (λ w. end x ∷ w) rest
 
-  module _ {S : Type 0} (seed : ℕ) where
-    left : (old new : HashMap ℕ (List ℕ) S) (xs : List T) (n : ℕ) → KeepsOthers n old new → AllByRecursion (λ x. IsNamed old (num x) (keys_of seed x)) xs → AllByRecursion (λ x. IsNamed new (num x) (keys_of seed x)) (without num n xs)
+  module _ (seed : ℕ) where
+    left : (old new : Hints) (xs : List T) (n : ℕ) → KeepsOthers n old new → AllByRecursion (λ x. IsNamed old (num x) (keys_of seed x)) xs → AllByRecursion (λ x. IsNamed new (num x) (keys_of seed x)) (without num n xs)
     left old new [] n keeps h = tt
     left old new (x ∷ xs) n keeps h =
         let rest = left old new xs n keeps h.1 in
@@ -69,7 +69,7 @@ module _ {T : Type 0} (num : T → ℕ) (keys_of : ℕ → T → List ℕ) (end_
           | inr ne ↦ rw (ne_eqb (num x) n ne) (still_named old new (num x) (keys_of seed x) (λ k. keeps k (num x) ne) h.0, rest)
         ]
 
-    pub one_goes : (old new : HashMap ℕ (List ℕ) S) (ends left_ends : Leased) (xs : List T) (n : ℕ) → left_ends.items ≡ without_item n ends.items → KeepsOthers n old new
+    pub one_goes : (old new : Hints) (ends left_ends : Leased) (xs : List T) (n : ℕ) → left_ends.items ≡ without_item n ends.items → KeepsOthers n old new
         → AreKeyed num keys_of end_of rank_of seed old ends xs → AreKeyed num keys_of end_of rank_of seed new left_ends (without num n xs)
     one_goes old new ends left_ends xs n is keeps h = record {
       named = left old new xs n keeps h.named;
@@ -77,7 +77,7 @@ module _ {T : Type 0} (num : T → ℕ) (keys_of : ℕ → T → List ℕ) (end_
       positive = all_left num (λ x. 0 < num x) n xs h.positive;
     }
 
-    pub still_keyed : (old new : HashMap ℕ (List ℕ) S) (ends same : Leased) (xs : List T) → Keeps old new → same.items ≡ ends.items → AreKeyed num keys_of end_of rank_of seed old ends xs → AreKeyed num keys_of end_of rank_of seed new same xs
+    pub still_keyed : (old new : Hints) (ends same : Leased) (xs : List T) → Keeps old new → same.items ≡ ends.items → AreKeyed num keys_of end_of rank_of seed old ends xs → AreKeyed num keys_of end_of rank_of seed new same xs
     still_keyed old new ends same xs keeps is h = record {
       named = each (λ x. IsNamed old (num x) (keys_of seed x)) (λ x. IsNamed new (num x) (keys_of seed x)) xs h.named (λ x g. still_named old new (num x) (keys_of seed x) (λ k. keeps k (num x)) g);
       ended = is ∙ h.ended;
@@ -85,7 +85,7 @@ module _ {T : Type 0} (num : T → ℕ) (keys_of : ℕ → T → List ℕ) (end_
     }
 
     -- where those have other numbers
-    pub others_keyed : (old new : HashMap ℕ (List ℕ) S) (ends same : Leased) (xs : List T) (n : ℕ) → KeepsOthers n old new → AllByRecursion (λ x. num x < n) xs → same.items ≡ ends.items
+    pub others_keyed : (old new : Hints) (ends same : Leased) (xs : List T) (n : ℕ) → KeepsOthers n old new → AllByRecursion (λ x. num x < n) xs → same.items ≡ ends.items
         → AreKeyed num keys_of end_of rank_of seed old ends xs → AreKeyed num keys_of end_of rank_of seed new same xs
     others_keyed old new ends same xs n keeps below is h = record {
       named = both (λ x. num x < n) (λ x. IsNamed old (num x) (keys_of seed x)) (λ x. IsNamed new (num x) (keys_of seed x)) xs below h.named (λ x lt g. let ne : num x ≢ n = omega (arith, lt) in still_named old new (num x) (keys_of seed x) (λ k. keeps k (num x) ne) g);
@@ -93,7 +93,7 @@ module _ {T : Type 0} (num : T → ℕ) (keys_of : ℕ → T → List ℕ) (end_
       positive = h.positive;
     }
 
-    pub one_comes : (hints : HashMap ℕ (List ℕ) S) (ends new : Leased) (xs : List T) (x : T) → new.items ≡ ends.items ++ end x ∷ [] → IsNamed hints (num x) (keys_of seed x) → 0 < num x
+    pub one_comes : (hints : Hints) (ends new : Leased) (xs : List T) (x : T) → new.items ≡ ends.items ++ end x ∷ [] → IsNamed hints (num x) (keys_of seed x) → 0 < num x
         → AreKeyed num keys_of end_of rank_of seed hints ends xs → AreKeyed num keys_of end_of rank_of seed hints new (xs ++ x ∷ [])
     one_comes hints ends new xs x is named up h = record {
       named = All-append (λ x. IsNamed hints (num x) (keys_of seed x)) xs (x ∷ []) h.named (named, tt);
@@ -103,13 +103,13 @@ module _ {T : Type 0} (num : T → ℕ) (keys_of : ℕ → T → List ℕ) (end_
 
     -- ---- several come
 
-    pub named_more : (old new : HashMap ℕ (List ℕ) S) (xs : List T) (i : ℕ) (x : T) → i < length xs → x ≡ get_or xs i x → Keeps old new → IsNamed new (num x) (keys_of seed x) → AreNamed num keys_of seed old (take i xs) → AreNamed num keys_of seed new (take (i + 1) xs)
+    pub named_more : (old new : Hints) (xs : List T) (i : ℕ) (x : T) → i < length xs → x ≡ get_or xs i x → Keeps old new → IsNamed new (num x) (keys_of seed x) → AreNamed num keys_of seed old (take i xs) → AreNamed num keys_of seed new (take (i + 1) xs)
     named_more old new xs i x lt is keeps this h =
         let more : take (i + 1) xs ≡ take i xs ++ x ∷ [] = take_more xs i x lt ∙ ap (λ w. take i xs ++ w ∷ []) (sym is) in
         let still = each (λ x. IsNamed old (num x) (keys_of seed x)) (λ x. IsNamed new (num x) (keys_of seed x)) (take i xs) h (λ x g. still_named old new (num x) (keys_of seed x) (λ k. keeps k (num x)) g) in
         subst (AreNamed num keys_of seed new) (sym more) (All-append (λ x. IsNamed new (num x) (keys_of seed x)) (take i xs) (x ∷ []) still (this, tt))
 
-    pub more_come : (hints : HashMap ℕ (List ℕ) S) (ends new : Leased) (xs come : List T) → new.items ≡ ends.items ++ map end come → AreNamed num keys_of seed hints come → AllByRecursion (λ x. 0 < num x) (xs ++ come)
+    pub more_come : (hints : Hints) (ends new : Leased) (xs come : List T) → new.items ≡ ends.items ++ map end come → AreNamed num keys_of seed hints come → AllByRecursion (λ x. 0 < num x) (xs ++ come)
         → AreKeyed num keys_of end_of rank_of seed hints ends xs → AreKeyed num keys_of end_of rank_of seed hints new (xs ++ come)
     more_come hints ends new xs come is named up h = record {
       named = All-append (λ x. IsNamed hints (num x) (keys_of seed x)) xs come h.named named;

@@ -1,19 +1,19 @@
 -- What is named under as many keys of an entry's values as it asks for, and which lists may be passed over.
-use Rattle.std.specs.Prelude.{ℕ, Bool, false, Option, Some, None, ◌&&◌, ◌||◌, nat_le, nat_lt, if◌then◌else◌, List, ◌∷◌, [], length, map, filter, nat_eq}
+use Rattle.std.specs.Prelude.{ℕ, Bool, false, Option, Some, None, ◌&&◌, ◌||◌, nat_le, nat_lt, if◌then◌else◌, List, ◌∷◌, [], length, map, filter}
 use Rattle.std.specs.List.{list_any}
 use Rattle.std.specs.Option.{option_map_or}
-use Rattle.std.specs.HashMap.{HashMap, get}
 use Rattle.jsp_types.specs.declared.value.Value.{Value}
 use Rattle.jsp_types.specs.declared.class.Class.{Class}
 use Rattle.jsp_types.specs.declared.entry.Entry.{Entry}
-use Rattle.jsp_table.specs.Numbers.{names}
+use Rattle.jsp_table.specs.Hints.{list_of, names}
 use Rattle.jsp_keys.specs.Keys.{count_key}
 use Rattle.jsp_keys.specs.Templates.{entry_keys, several_keys}
+use Rattle.jsp_table.specs.declared.hints.Hints.{Hints}
 
-module _ {S : Type 0} (hints : HashMap ℕ (List ℕ) S) where
+module _ (hints : Hints) where
   -- how long the key's list is
   abbrev pub length_under : ℕ → ℕ
-  length_under key = option_map_or length (get nat_eq hints key) 0
+  length_under key = option_map_or length (list_of hints key) 0
 
   -- it is longer than the limit, if there is one
   abbrev pub is_longer : Option ℕ → ℕ → Bool

@@ -40,7 +40,7 @@ pub(crate) fn append<T: Drop, K: Numbering<T> + Keying<T>>(
     let _ = table.places();
     let number = K::number(&thing);
     let mut things = Vec::with_capacity(alloc, 1)?;
-    name_wholly::<T, K>(alloc, seed, hints, &thing)?;
+    name_wholly::<T, K>(seed, hints, &thing)?;
     things.push(thing)?;
     if let Err(e) = table.append(&mut things) {
         forget_gone::<T, K>(seed, hints, things.pop(), number);

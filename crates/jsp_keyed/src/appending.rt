@@ -38,7 +38,7 @@ impl<T, K: Numbering<T> + Keying<T>> Keyed<T, K> {
             return Ok(());
         };
         let first = K::number(first);
-        name_all::<T, K>(self.alloc, self.seed, &mut self.hints, things)?;
+        name_all::<T, K>(self.seed, &mut self.hints, things)?;
         let items = ends_of::<T, K>(self.alloc, things)?;
         make_ready::<T, K>(
             self.alloc,

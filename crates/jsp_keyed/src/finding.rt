@@ -2,7 +2,7 @@
 //! here takes memory.
 ghost use Rattle.std.specs.Prelude.{◌≡◌, ◌<◌, ℕ, true, find, option_copied};
 ghost use Rattle.std.specs.List.{AllByRecursion, list_any};
-ghost use Rattle.jsp_table.specs.Numbers.{names};
+ghost use Rattle.jsp_table.specs.Hints.{names};
 ghost use Rattle.jsp_table.specs.Finding.{AreNumbered};
 ghost use Rattle.jsp_keyed.specs.Finding.{is_next, is_sought, lesser as lesser_of, IsLeast};
 
@@ -30,7 +30,7 @@ fn first_under<'a, T, K: Numbering<T>, P: Test<T>>(
 ) -> Option<&'a T>
     ensures { IsLeast K.number_of (is_next K.number_of (P.is_passed test.now) after) (λ x. names hints.now key (K.number_of x)) table.now (option_copied result) }
 {
-    match hints.get(&key) {
+    match hints.get(key) {
         None => None,
         Some(numbers) => table.first_above(numbers, after, test),
     }

@@ -12,7 +12,6 @@ use crate::{Keying, NoMemory};
 use jsp_lease::{Item, Leases};
 use jsp_table::{Hints, Numbering, Numbers, Table};
 use std::alloc::Global;
-use std::collections::HashMap;
 use std::marker::Model;
 
 /// Things, found by number, by key and by end. Contracts see the list of them, in rising order of
@@ -49,7 +48,7 @@ impl<T, K: Numbering<T> + Keying<T>> Keyed<T, K> {
             alloc,
             seed,
             table: Table::new(alloc),
-            hints: HashMap::new(alloc),
+            hints: Hints::new(alloc),
             none: Numbers::new(alloc),
             ends: Leases::new(alloc),
         }

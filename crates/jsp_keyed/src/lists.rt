@@ -96,7 +96,7 @@ fn fill(hints: &Hints, values: &ValueKeys, count: u64, lengths: &mut [usize; KEP
 pub(crate) fn length_of(hints: &Hints, key: u64) -> usize
     ensures { result ≡ length_under hints.now key }
 {
-    match hints.get(&key) {
+    match hints.get(key) {
         None => 0,
         Some(numbers) => numbers.len(),
     }

@@ -3,12 +3,10 @@ ghost use Rattle.std.specs.Prelude.{◌≡◌, OnOk, IfSome};
 ghost use Rattle.jsp_keyed.specs.Kept.{IsNamed, AreNamed, Keeps, KeepsOthers};
 
 use crate::{Keying, NoMemory};
-use jsp_table::{Hints, Numbering, add_hint, drop_hint};
-use std::alloc::Global;
+use jsp_table::{Hints, Numbering};
 
 /// Names a thing under each of its keys. Nothing goes from any list, on `Err` either.
 pub(crate) fn name<T, K: Numbering<T> + Keying<T>>(
-    alloc: Global,
     seed: u64,
     hints: &mut Hints,
     thing: &T,
@@ -18,7 +16,7 @@ pub(crate) fn name<T, K: Numbering<T> + Keying<T>>(
 {
     let number = K::number(thing);
     'places: for place in 0..K::count(seed, thing) {
-        add_hint(alloc, hints, K::key(seed, thing, place), number)?;
+        hints.add(K::key(seed, thing, place), number)?;
     }
     Ok(())
 }
@@ -26,7 +24,6 @@ pub(crate) fn name<T, K: Numbering<T> + Keying<T>>(
 /// Names a thing that is named nowhere yet under each of its keys, or under none where memory is
 /// refused. The others stay named.
 pub(crate) fn name_wholly<T, K: Numbering<T> + Keying<T>>(
-    alloc: Global,
     seed: u64,
     hints: &mut Hints,
     thing: &T,
@@ -34,7 +31,7 @@ pub(crate) fn name_wholly<T, K: Numbering<T> + Keying<T>>(
     ensures ok { OnOk result (IsNamed hints.new (K.number_of thing.now) (K.keys_of seed thing.now)) }
     ensures others { KeepsOthers (K.number_of thing.now) hints.old hints.new }
 {
-    if let Err(e) = name::<T, K>(alloc, seed, hints, thing) {
+    if let Err(e) = name::<T, K>(seed, hints, thing) {
         forget::<T, K>(seed, hints, thing);
         return Err(e);
     }
@@ -43,7 +40,6 @@ pub(crate) fn name_wholly<T, K: Numbering<T> + Keying<T>>(
 
 /// Names things under each of their keys. Nothing goes from any list, on `Err` either.
 pub(crate) fn name_all<T, K: Numbering<T> + Keying<T>>(
-    alloc: Global,
     seed: u64,
     hints: &mut Hints,
     things: &[T],
@@ -52,7 +48,7 @@ pub(crate) fn name_all<T, K: Numbering<T> + Keying<T>>(
     ensures keeps { Keeps hints.old hints.new }
 {
     'things: for thing in things {
-        name::<T, K>(alloc, seed, hints, thing)?;
+        name::<T, K>(seed, hints, thing)?;
     }
     Ok(())
 }
@@ -63,7 +59,7 @@ pub(crate) fn forget<T, K: Numbering<T> + Keying<T>>(seed: u64, hints: &mut Hint
 {
     let number = K::number(thing);
     'places: for place in 0..K::count(seed, thing) {
-        drop_hint(hints, K::key(seed, thing, place), number);
+        hints.remove(K::key(seed, thing, place), number);
     }
 }
 

@@ -2,7 +2,8 @@
 //! that is sought is tested once, where one search after another would test some again and again.
 ghost use Rattle.std.specs.Prelude.{◌≡◌, ◌<◌, ◌&&◌, ℕ, true, OnOk};
 ghost use Rattle.std.specs.List.{AllByRecursion, list_any};
-ghost use Rattle.jsp_table.specs.Numbers.{contains, names};
+ghost use Rattle.jsp_table.specs.Numbers.{contains};
+ghost use Rattle.jsp_table.specs.Hints.{names};
 
 use crate::{Keys, NoMemory};
 use jsp_table::{Hints, Numbering, Numbers, Table, Test};
@@ -38,7 +39,7 @@ fn gather_under<T, K: Numbering<T>, P: Test<T>>(
     ensures ok { OnOk result (AllByRecursion (λ x. P.is_passed test.now x ≡ true → names hints.now key (K.number_of x) ≡ true → contains found.new (K.number_of x) ≡ true) table.now) }
     ensures keeps { (m : ℕ) → contains found.old m ≡ true → contains found.new m ≡ true }
 {
-    match hints.get(&key) {
+    match hints.get(key) {
         None => Ok(()),
         Some(numbers) => gather_named(table, numbers, test, found),
     }

@@ -14,7 +14,7 @@ impl<T, K: Numbering<T> + Keying<T>> Keyed<T, K> {
         ensures { (kind : T → Bool) → HaveKey K.keys_of (Q.key_by key.now) kind → AreNamed K.number_of kind result.now self.now }
     {
         let key = key.key(self.seed);
-        match self.hints.get(&key) {
+        match self.hints.get(key) {
             None => &self.none,
             Some(numbers) => numbers,
         }
@@ -28,7 +28,7 @@ impl<T, K: Numbering<T> + Keying<T>> Keyed<T, K> {
         if seed != self.seed {
             return None;
         }
-        match self.hints.get(&key) {
+        match self.hints.get(key) {
             None => Some(&self.none),
             Some(numbers) => Some(numbers),
         }

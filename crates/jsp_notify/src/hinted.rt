@@ -19,13 +19,11 @@ use jsp_model::{Item, Registration, Row};
 use jsp_table::{Hints, Test};
 use jsp_types::{Classes, NoMemory};
 use std::alloc::Global;
-use std::collections::HashMap;
 use std::marker::Model;
 
 /// Registrations, found by hints.
 #[derive(Drop)]
 pub(crate) struct HintedRegistrations {
-    alloc: Global,
     registrations: Found,
     /// The numbers of those that are owed an event, by space. A list may name more.
     owed: Hints,
@@ -48,9 +46,8 @@ impl HintedRegistrations {
         ensures { result ≡ [] }
     {
         HintedRegistrations {
-            alloc,
             registrations: Keyed::new(alloc, seed),
-            owed: HashMap::new(alloc),
+            owed: Hints::new(alloc),
         }
     }
 
@@ -63,7 +60,7 @@ impl HintedRegistrations {
         ensures ok { IfOk result (λ back. MatchOption back (self.new ≡ self.old ++ registration ∷ []) (λ it. (it ≡ registration) × (self.new ≡ self.old))) }
         ensures err { OnErr result (self.new ≡ self.old) }
     {
-        name_owed(self.alloc, &mut self.owed, &registration)?;
+        name_owed(&mut self.owed, &registration)?;
         match self.registrations.push(registration)? {
             None => Ok(None),
             Some(back) => Ok(Some(back)),
@@ -134,7 +131,7 @@ impl HintedRegistrations {
         };
         let number = row.number;
         let listeners = self.registrations.passing(&news)?;
-        name_listeners(self.alloc, &mut self.owed, row.space, &listeners)?;
+        name_listeners(&mut self.owed, row.space, &listeners)?;
         self.registrations
             .try_change_named(&listeners, &news, &Owing { number }, &Forgiving {})?;
         Ok(())
@@ -181,7 +178,7 @@ impl HintedRegistrations {
     pub(crate) fn first_owed(&self, space: u64) -> Option<&Registration>
         ensures { option_copied result ≡ find (λ r. r.space == space && not (length r.owed == 0)) self.now }
     {
-        match self.owed.get(&space) {
+        match self.owed.get(space) {
             None => None,
             Some(numbers) => self
                 .registrations

@@ -1,33 +1,28 @@
 //! Registrations that are owed an event, named by their spaces.
 ghost use Rattle.std.specs.Prelude.{◌≡◌, ◌<◌, ℕ, true, OnOk};
-ghost use Rattle.jsp_table.specs.Numbers.{contains, names};
+ghost use Rattle.jsp_table.specs.Numbers.{contains};
 ghost use Rattle.jsp_keyed.specs.Kept.{Keeps, KeepsOthers};
 ghost use Rattle.jsp_notify.specs.Waiting.{IsNamed, AreNamed};
+ghost use Rattle.jsp_table.specs.Hints.{names};
 
 use crate::by_number::Found;
 use jsp_model::Registration;
-use jsp_table::{Hints, Numbers, add_hint, drop_hint};
+use jsp_table::{Hints, Numbers};
 use jsp_types::NoMemory;
-use std::alloc::Global;
 
 /// Names a registration at its space, if it is owed an event. Nothing goes from any list, on `Err` either.
-pub(crate) fn name_owed(
-    alloc: Global,
-    owed: &mut Hints,
-    registration: &Registration,
-) -> Result<(), NoMemory>
+pub(crate) fn name_owed(owed: &mut Hints, registration: &Registration) -> Result<(), NoMemory>
     ensures ok { OnOk result (IsNamed owed.new registration.now) }
     ensures keeps { Keeps owed.old owed.new }
 {
     if registration.owed.as_slice().is_empty() {
         return Ok(());
     }
-    add_hint(alloc, owed, registration.space, registration.number)
+    owed.add(registration.space, registration.number)
 }
 
 /// Names these at a space. Nothing goes from any list, on `Err` either.
 pub(crate) fn name_listeners(
-    alloc: Global,
     owed: &mut Hints,
     space: u64,
     listeners: &Numbers,
@@ -37,7 +32,7 @@ pub(crate) fn name_listeners(
 {
     let mut last = 0;
     'listeners: while let Some(number) = listeners.next_above(last) {
-        add_hint(alloc, owed, space, number)?;
+        owed.add(space, number)?;
         last = number;
     }
     Ok(())
@@ -48,7 +43,7 @@ pub(crate) fn forget_gone(owed: &mut Hints, space: Option<u64>, number: u64)
     ensures { KeepsOthers number owed.old owed.new }
 {
     if let Some(space) = space {
-        drop_hint(owed, space, number);
+        owed.remove(space, number);
     }
 }
 
@@ -63,6 +58,6 @@ pub(crate) fn forget_told(owed: &mut Hints, registrations: &Found, number: u64)
         return;
     };
     if registration.owed.as_slice().is_empty() {
-        drop_hint(owed, registration.space, number);
+        owed.remove(registration.space, number);
     }
 }

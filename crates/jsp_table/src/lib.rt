@@ -20,7 +20,7 @@ mod table;
 pub use counts::{
     Counts, count_of, count_one_less, count_one_more, drop_count, make_room_for_count,
 };
-pub use hints::{Hints, add_hint, drop_hint};
+pub use hints::Hints;
 pub use numbers::Numbers;
 pub use room::make_room;
 pub use std::alloc::AllocError as NoMemory;

@@ -16,9 +16,9 @@ const MOST_FEW: usize = 256;
 
 /// Numbers in rising order, each once. Contracts see the list of them.
 ///
-/// Most lists are of a single number, which takes no block of its own, so that a map of lists is small. A few
-/// numbers stand next to one another. Once there are more, they are a tree, so that one in the middle of very
-/// many goes as quickly as the first. What was a tree stays one.
+/// Most lists are of a single number, which takes no block of its own, so that a map of lists is
+/// small. A few numbers stand next to one another. Once there are more, they are a tree, so that
+/// one in the middle of very many goes as quickly as the first. What was a tree stays one.
 #[derive(Drop)]
 pub struct Numbers {
     alloc: Global,

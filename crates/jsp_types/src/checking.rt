@@ -94,7 +94,7 @@ fn filled(
 ) -> Result<Items<(Text, Value)>, NoMemory>
     ensures { IfOk result (λ values. values ≡ filled fields.now given.now) }
 {
-    let mut values = Items::new(alloc);
+    let mut values = Items::from_vec(Vec::with_capacity(alloc, fields.len())?);
     for field in fields {
         let name = field.0.clone()?;
         let value = value_at(given, field.0.as_str())?;

@@ -5,7 +5,8 @@ use crate::NoMemory;
 use std::marker::Model;
 use std::str;
 
-/// How many bytes a short text has at most: with its length and the mark that it is one it fills two words.
+/// How many bytes a short text has at most: with its length and the mark that it is one it fills
+/// two words.
 const MOST: usize = 14;
 
 /// A text of at most 14 bytes. Contracts see it as the list of them.

@@ -2,7 +2,7 @@ use Rattle.std.proofs.Common.{◌≡◌, ℕ, ◌+◌, ◌<◌, List, length, ta
 use Rattle.std.specs.Prelude.{slice_index}
 use Rattle.std.specs.List.{list_any}
 use Rattle.std.proofs.lemmas.List.{take_all}
-use Rattle.jsp_table.specs.Numbers.{names}
+use Rattle.jsp_table.specs.Hints.{names}
 use Rattle.jsp_keyed.specs.Finding.{is_next, IsLeast}
 use Rattle.jsp_keyed.proofs.Least.{least_of_both}
 use Rattle.jsp_keyed.proofs.Named.{any_more}

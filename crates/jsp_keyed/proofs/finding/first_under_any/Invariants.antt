@@ -1,6 +1,6 @@
 use Rattle.std.proofs.Common.{take, option_copied}
 use Rattle.std.specs.List.{list_any}
-use Rattle.jsp_table.specs.Numbers.{names}
+use Rattle.jsp_table.specs.Hints.{names}
 use Rattle.jsp_keyed.specs.Finding.{is_next, IsLeast}
 use Rattle.jsp_keyed.proofs.finding.first_under_any.Given as goal
 

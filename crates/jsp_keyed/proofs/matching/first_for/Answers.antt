@@ -1,6 +1,6 @@
 use Rattle.std.proofs.Common.{◌∙◌, ℕ, false, ◌||◌, List, ◌∷◌, ◌++◌, option_copied, sym, subst, inl, inr}
 use Rattle.std.specs.List.{list_any}
-use Rattle.jsp_table.specs.Numbers.{names}
+use Rattle.jsp_table.specs.Hints.{names}
 use Rattle.jsp_table.proofs.Rising.{or_cases}
 use Rattle.jsp_keyed.specs.Finding.{is_next, IsLeast}
 use Rattle.jsp_keyed.specs.Several.{are_named}

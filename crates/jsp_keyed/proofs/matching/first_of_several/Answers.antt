@@ -1,6 +1,6 @@
 use Rattle.std.proofs.Common.{◌≡◌, ◌∙◌, ℕ, false, map, option_copied, ap, sym, nat_lt}
 use Rattle.std.specs.List.{list_any}
-use Rattle.jsp_table.specs.Numbers.{names}
+use Rattle.jsp_table.specs.Hints.{names}
 use Rattle.jsp_table.proofs.Finding.{everywhere}
 use Rattle.jsp_keys.specs.Keys.{mix, count_key}
 use Rattle.jsp_keyed.specs.Several.{length_under, looked_under, are_named}

@@ -1,12 +1,13 @@
 use Rattle.std.proofs.Common.{◌∙◌, ◌≡◌, ℕ, true, false, ◌||◌, List, ◌∷◌, ◌++◌, subst, inl, inr}
 use Rattle.std.specs.List.{AllByRecursion, list_any}
-use Rattle.jsp_table.specs.Numbers.{contains, names}
+use Rattle.jsp_table.specs.Numbers.{contains}
 use Rattle.jsp_table.proofs.Rising.{or_cases}
 use Rattle.jsp_keyed.specs.Several.{are_named, is_named_for}
 use Rattle.jsp_keys.specs.Keys.{any_key}
 use Rattle.jsp_keys.specs.Templates.{value_keys, line_keys}
 use Rattle.jsp_keyed.proofs.Enough.{on_ok, or_none, four_parts}
 use Rattle.jsp_keyed.proofs.matching.gather_for.Goals as goal
+use Rattle.jsp_table.specs.Hints.{names}
 
 pub returns : goal.returns
 returns g c =

@@ -1,11 +1,12 @@
 use Rattle.std.proofs.Common.{◌≡◌, ◌∙◌, ℕ, false, map, ap, sym, nat_lt, true}
 use Rattle.std.specs.List.{list_any}
-use Rattle.jsp_table.specs.Numbers.{contains, names}
+use Rattle.jsp_table.specs.Numbers.{contains}
 use Rattle.jsp_table.proofs.Finding.{each, everywhere}
 use Rattle.jsp_keys.specs.Keys.{mix, count_key}
 use Rattle.jsp_keyed.specs.Several.{length_under, looked_under, are_named}
 use Rattle.jsp_keyed.proofs.Enough.{not_named, found_in_lists, on_ok}
 use Rattle.jsp_keyed.proofs.matching.gather_several.Goals as goal
+use Rattle.jsp_table.specs.Hints.{names}
 
 pub returns-then-not-asks_any-clause-ok : goal.returns-then-not-asks_any-clause-ok
 returns-then-not-asks_any-clause-ok g c =

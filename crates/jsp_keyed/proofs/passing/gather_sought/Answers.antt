@@ -2,10 +2,11 @@ use Rattle.std.proofs.Common.{◌≡◌, ℕ, true, ◌+◌, ◌<◌, List, leng
 use Rattle.std.specs.Prelude.{slice_index}
 use Rattle.std.specs.List.{AllByRecursion, list_any}
 use Rattle.std.proofs.lemmas.List.{take_all}
-use Rattle.jsp_table.specs.Numbers.{contains, names}
+use Rattle.jsp_table.specs.Numbers.{contains}
 use Rattle.jsp_table.proofs.Finding.{each, both}
 use Rattle.jsp_keyed.proofs.Named.{any_more}
 use Rattle.jsp_keyed.proofs.passing.gather_sought.Goals as goal
+use Rattle.jsp_table.specs.Hints.{names}
 
 pub places-init : goal.places-init
 places-init g c =

@@ -1,7 +1,8 @@
 use Rattle.std.proofs.Common.{◌≡◌, ℕ, true, take}
 use Rattle.std.specs.List.{AllByRecursion, list_any}
-use Rattle.jsp_table.specs.Numbers.{contains, names}
+use Rattle.jsp_table.specs.Numbers.{contains}
 use Rattle.jsp_keyed.proofs.passing.gather_sought.Given as goal
+use Rattle.jsp_table.specs.Hints.{names}
 
 abbrev pub invariant-places : goal.invariant-places
 invariant-places g l =

@@ -8,4 +8,4 @@ pub returns-then-is_empty : goal.returns-then-is_empty
 returns-then-is_empty c =
     let r = c.in-Some.registration.now in
     let none : (length r.owed == 0) ≡ true = first_of (search rules, grind (arith, common_steps)) in
-    one_told c.args.owed.now c.drop_hint.new.hints c.args.number r c.args.registrations.now c.places.ensures.rising (sym c.in-Some.ensures) none c.drop_hint.ensures c.requires
+    one_told c.args.owed.now c.remove.new.self c.args.number r c.args.registrations.now c.places.ensures.rising (sym c.in-Some.ensures) none c.remove.ensures c.requires

@@ -1,7 +1,8 @@
 use Rattle.std.proofs.Common.{◌≡◌, ℕ, ◌<◌, ◌≤◌, ◌-◌, ◌^◌, true}
-use Rattle.jsp_table.specs.Numbers.{contains, names}
+use Rattle.jsp_table.specs.Numbers.{contains}
 use Rattle.jsp_keyed.specs.Kept.{Keeps}
 use Rattle.jsp_notify.proofs.naming.name_listeners.Given as goal
+use Rattle.jsp_table.specs.Hints.{names}
 
 abbrev pub invariant-listeners : goal.invariant-listeners
 invariant-listeners l = record {

@@ -1,6 +1,6 @@
 use Rattle.std.proofs.Common.{List, option_copied, subst}
 use Rattle.std.specs.List.{list_any}
-use Rattle.jsp_table.specs.Numbers.{names}
+use Rattle.jsp_table.specs.Hints.{names}
 use Rattle.jsp_table.specs.Finding.{AreNumbered}
 use Rattle.jsp_keyed.specs.Finding.{is_next, IsLeast}
 use Rattle.jsp_keyed.specs.Kept.{IsNamed}
