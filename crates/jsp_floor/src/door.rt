@@ -20,7 +20,7 @@ pub trait Door<R, W, X> {
     fn next(&mut self) -> Knock<R, W, X>
         ensures { IfLine result gives };
 
-    /// Whether the lines that are served are to end. It is asked from time to time once no further one
-    /// comes.
+    /// Whether the lines that are served are to end. It is asked from time to time once no further
+    /// one comes.
     fn is_stopped(&self) -> bool;
 }

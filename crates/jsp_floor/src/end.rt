@@ -15,8 +15,8 @@ use std::io::{Read, Write};
 use std::sync::Wait;
 use std::sync::ledger::Ledger;
 
-/// What a run answers: a fault that was met, or else what its history is, compared with what its lines read and wrote
-/// where no era was sealed. The seed is for that.
+/// What a run answers: a fault that was met, or else what its history is, compared with what its
+/// lines read and wrote where no era was sealed. The seed is for that.
 pub(crate) fn finish<
     H: House,
     A: Ledger,
@@ -56,7 +56,8 @@ pub(crate) fn finish<
 
 /// Settles what is left, and ends the history, which is that of a house of the config.
 ///
-/// Of what a lock gives back only that is known that its type says. So that it is of this config is looked at.
+/// Of what a lock gives back only that is known that its type says. So that it is of this config is
+/// looked at.
 fn end<H: House, A: Ledger, O: Ledger, T: Wait>(
     rt: &T,
     config: &Config,

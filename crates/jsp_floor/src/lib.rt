@@ -1,7 +1,7 @@
 //! Many lines at once over one house.
 //!
-//! `run_house` serves the lines of a [`Door`] over one history (jsp_line), each by threads of its own,
-//! settles meanwhile, and closes the history once all have ended.
+//! `run_house` serves the lines of a [`Door`] over one history (jsp_line), each by threads of its
+//! own, settles meanwhile, and closes the history once all have ended.
 #![tactic(auto)]
 
 mod door;

@@ -8,7 +8,7 @@ ghost use Rattle.jsp_floor.specs.Served.{found_memory, report_of};
 use crate::door::Door;
 use crate::served::Served;
 use jsp_closing::RunFault;
-use jsp_kept::Backlog;
+use jsp_kept::InParts;
 use jsp_line::{Floor, Hangup, Left, LineDone, ShutFor};
 use jsp_model::Why;
 use std::alloc::Global;
@@ -17,8 +17,8 @@ use std::sync::ledger::Ledger;
 use std::sync::{Arc, Condvar, Mutex, Wait};
 use std::time::{Clock, Duration};
 
-/// How often it is looked whether lines have ended that are to end, and after how many milliseconds each:
-/// for two seconds.
+/// How often it is looked whether lines have ended that are to end, and after how many milliseconds
+/// each: for two seconds.
 const LOOKS: u32 = 40;
 
 const PAUSE: u64 = 50;
@@ -84,7 +84,8 @@ impl<R: Read + Drop, W: Write + Drop, X: Hangup + Drop, D: Door<R, W, X>> Lines<
         self.progress.lock(rt).lines.push(line).is_ok()
     }
 
-    /// A line that came through the door has ended. Once an era was sealed nothing is kept of what it read and wrote.
+    /// A line that came through the door has ended. Once an era was sealed nothing is kept of what
+    /// it read and wrote.
     pub(crate) fn leave<A: Ledger, O: Ledger, T: Wait>(
         &self,
         rt: &T,
@@ -104,9 +105,10 @@ impl<R: Read + Drop, W: Write + Drop, X: Hangup + Drop, D: Door<R, W, X>> Lines<
         }
     }
 
-    /// Shuts the sessions of all lines that are served, so that these end, and ends the connections of those
-    /// that haven't ended after two seconds: a client that reads nothing would hold them up for ever.
-    pub(crate) fn end_all<H: Backlog, A: Ledger, O: Ledger, T: Wait + Clock>(
+    /// Shuts the sessions of all lines that are served, so that these end, and ends the connections
+    /// of those that haven't ended after two seconds: a client that reads nothing would hold them
+    /// up for ever.
+    pub(crate) fn end_all<H: InParts, A: Ledger, O: Ledger, T: Wait + Clock>(
         &self,
         rt: &T,
         floor: &Floor<H, A, O>,

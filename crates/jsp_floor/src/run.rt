@@ -13,7 +13,7 @@ use crate::door::{Door, Knock};
 use crate::end::finish;
 use crate::lines::Lines;
 use jsp_closing::{Closed, RunFault};
-use jsp_kept::{AskSeat, Backlog, Kept, OutSeat};
+use jsp_kept::{AskSeat, InParts, Kept, OutSeat};
 use jsp_line::{Clock, Counts, Floor, Gate, Hangup, LineDone, Shared, ShutFor, start};
 use jsp_model::Config;
 use std::alloc::Global;
@@ -100,7 +100,7 @@ impl<R: Read + Drop, W: Write + Drop, X: Hangup + Drop, D: Door<R, W, X>, G: Gat
 struct Server<
     'a,
     'l,
-    H: Backlog,
+    H: InParts,
     A: Ledger,
     O: Ledger,
     R: Read,
@@ -116,7 +116,7 @@ struct Server<
 }
 
 impl<
-    H: Backlog + Send,
+    H: InParts + Send,
     A: Ledger + Send + Sync,
     O: Ledger + Send + Sync,
     R: Read + Send + Drop,
@@ -127,8 +127,8 @@ impl<
     C: Clock + Sync,
     T: Threads + Wait + time::Clock + Sync,
 > Server<'_, '_, H, A, O, R, W, X, D, G, C, T> {
-    // Opens the session of a line that has come, unless as many are served as may be at once, or memory is wanting: its
-    // connection is closed then.
+    // Opens the session of a line that has come, unless as many are served as may be at once, or
+    // memory is wanting: its connection is closed then.
     fn welcome(&self, reader: R, writer: W, hangup: X) -> Guest<Caller<A, O, R, W, X>>
         requires { D.gives reader writer }
         ensures { IfCaller result (λ caller. D.gives caller.reader caller.writer) }
@@ -275,7 +275,7 @@ impl<
 // As `run_house`, with the ledgers of the seats.
 fn run_in<
     'x,
-    H: Backlog + Send,
+    H: InParts + Send,
     A: Ledger + Send + Sync,
     O: Ledger + Send + Sync,
     R: Read + Send + Drop,
@@ -341,14 +341,14 @@ fn run_in<
     )
 }
 
-/// Serves the lines of a door over an empty house until the door is closed and all have ended. A line above
-/// those that are served at once ends at once. The seed is for the replay at the end, and clients
-/// shouldn't know it.
+/// Serves the lines of a door over an empty house until the door is closed and all have ended. A
+/// line above those that are served at once ends at once. The seed is for the replay at the end,
+/// and clients shouldn't know it.
 ///
-/// Each whole line of the answer is one that the door gave: what it read and wrote is what came of its reader and
-/// went to its writer, and a failure is told where one was counted there.
+/// Each whole line of the answer is one that the door gave: what it read and wrote is what came of
+/// its reader and went to its writer, and a failure is told where one was counted there.
 pub fn run_house<
-    H: Backlog + Send,
+    H: InParts + Send,
     R: Read + Send + Drop,
     W: Write + Send + Drop,
     X: Hangup + Send + Sync + Drop,

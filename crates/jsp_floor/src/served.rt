@@ -15,7 +15,8 @@ use std::io::{Read, Write};
 use std::marker::{Model, PhantomData};
 use std::sync::ledger::Ledger;
 
-/// What the threads of a run have answered so far. Each line that is reported whole came through the door.
+/// What the threads of a run have answered so far. Each line that is reported whole came through
+/// the door.
 #[derive(Drop)]
 pub(crate) struct Served<R: Read, W: Write, X, D: Door<R, W, X>> {
     pub(crate) reports: Vec<LineReport>,
@@ -61,7 +62,8 @@ fn has_found_memory(read: Option<Why>, other: Option<Why>, health: Health) -> bo
     !is_short(read) && !is_short(other) && health != Health::NoMemory
 }
 
-// What a line read and wrote, where its bytes were all kept. It is whole where it found memory besides.
+// What a line read and wrote, where its bytes were all kept. It is whole where it found memory
+// besides.
 fn report<A: Ledger, O: Ledger, R: Read + Drop, W: Write + Drop>(
     is_whole: bool,
     reader: Counted<R>,
@@ -167,8 +169,8 @@ impl<R: Read + Drop, W: Write + Drop, X, D: Door<R, W, X>> Served<R, W, X, D> {
         self.add_report(short_report(self.alloc, session));
     }
 
-    /// Adds what a line that came through the door read and wrote, and the faults that it met. Once an era was sealed no
-    /// report is kept.
+    /// Adds what a line that came through the door read and wrote, and the faults that it met. Once
+    /// an era was sealed no report is kept.
     pub(crate) fn add_line<A: Ledger, O: Ledger>(&mut self, done: LineDone<A, O, R, W>, left: Left)
         requires { (read written : Vec ℕ Global) → done.read.transcript ≡ Whole read → done.out.transcript ≡ Whole written
             → MayCome D.gives R.remaining W.contents

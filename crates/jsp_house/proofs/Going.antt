@@ -93,3 +93,7 @@ pub some_undone : {A : Type 0} (f : A → Step) (x : Option A) (old st : State) 
     → (IsDone st debt (option_map f x) → ⊥) → IsDone old owed (option_map f x) → ⊥
 some_undone f x old st owed debt n m same undone d =
     let k = same d in undone (rw (k.0, k.1) d)
+
+-- nothing was made, since memory was wanting
+pub finishes_none : (st : State) (owed : List ℕ) (log : List Step) (e : Stopped) → Finishes st st owed owed log log (Err e)
+finishes_none st owed log e = finishes_some st st owed owed log log e (goes_start st owed log)

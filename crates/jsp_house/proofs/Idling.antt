@@ -1,5 +1,5 @@
 -- Where no transaction votes, a settle turn makes a space quiet, or all are.
-use Rattle.std.proofs.Common.{◌≡◌, refl, ◌∙◌, ℕ, List, [], ◌∷◌, ◌++◌, Bool, true, false, Some, None, Ok, Err}
+use Rattle.std.proofs.Common.{◌≡◌, refl, ap, ◌∙◌, ℕ, List, [], ◌∷◌, ◌++◌, Bool, true, false, Some, None, Ok, Err}
 use Rattle.std.specs.Prelude.{if◌then◌else◌, option_to_list}
 use Rattle.std.specs.List.{list_all}
 use Rattle.std.proofs.lemmas.Bool.{and_parts}
@@ -15,7 +15,7 @@ use Rattle.jsp_model.specs.House.{Covers, OwesOnce, Settles, Finishes, touched}
 use Rattle.jsp_model.proofs.Joining.{Makes-none}
 use Rattle.jsp_laws.proofs.Lists.{each_numbers}
 use Rattle.jsp_quiet.specs.Steady.{IsSteady}
-use Rattle.jsp_house.proofs.Order.{turn_less}
+use Rattle.jsp_house.proofs.Order.{covers_itself, turn_less}
 use Rattle.jsp_quiet.proofs.Turns.{none_unquiet, still_quiet}
 use Rattle.jsp_quiet.proofs.Covering.{all_both, all_parts, covered, covers_more}
 
@@ -81,4 +81,17 @@ quieting_unmade old owed left log e none no_memory c o = record {
   answers = λ full no_turn. absurd (cc (no_memory, full));
   turn = refl;
   once = o;
+}
+
+-- ---- nothing was made, since memory was wanting
+
+pub settles_none : (st : State) (owed : List ℕ) (log : List Step) (e : Stopped) → e ≡ record { why = why.NoMemory; done = false } → Settles st st owed owed log log (Err e)
+settles_none st owed log e is = record {
+  steps = [];
+  makes = Makes-none st log;
+  own = rw is refl;
+  leaves = covers_itself owed;
+  answers = λ full no_turn. absurd (cc (ap (λ (x : Stopped). x.why) is, full));
+  turn = refl;
+  once = λ h. h;
 }

@@ -55,7 +55,7 @@ fn apply_coming<T: Coming>(alloc: Global, image: &mut LiveImage, coming: &T)
     }
 }
 
-fn apply_in(image: &mut LiveImage, spaces: &[u64])
+pub(crate) fn apply_in(image: &mut LiveImage, spaces: &[u64])
     ensures { image.new ≡ image.old }
 {
     'spaces: for space in spaces {

@@ -6,7 +6,8 @@
 //! nothing that doesn't ask for it (docs/PERF.md says where it still does). It chooses steps and makes them
 //! through jsp_audit, so each of its calls is a legal run: that is the contract `House` of jsp_model,
 //! which it meets. A call first finishes what an earlier one left and quiets the spaces that its own
-//! step touches, then makes that step, and then all that follows from it by itself (`finishing.rt`).
+//! step touches, then makes that step, and then all that follows from it by itself (`finishing.rt`). A call
+//! beside what is owed (`InParts`) leaves that aside, and does so with what is due and touched alone.
 //! Of several rows that a request may be given it gives those with the least numbers. A space is made
 //! quiet by grants in arrival order, then by answers that there is nothing, then by events.
 #![tactic(auto)]
@@ -15,6 +16,7 @@ mod acting;
 mod answering;
 mod applying;
 mod choosing;
+mod clock;
 mod finishing;
 mod making;
 mod owing;

@@ -1,14 +1,17 @@
 //! The house.
-ghost use Rattle.std.specs.Prelude.{◌≡◌, [], None, IfOk};
+ghost use Rattle.std.specs.Prelude.{◌≡◌, ◌++◌, [], None, IfOk};
 ghost use Rattle.jsp_model.specs.Lookup.{empty};
 ghost use Rattle.jsp_quiet.specs.Steady.{IsSteady};
 ghost use Rattle.jsp_quiet.specs.Props.{IsSteady-prop};
 
 use crate::acting::{act, act_ready, make_ready};
 use crate::answering::{answer, close, next_waiting};
+use crate::clock::next_time;
+use crate::owing::{forget_owed, join};
 use crate::performing::clear;
 use crate::settling::{all_quiet, settle, turn};
 use jsp_audit::{empty_image, is_open};
+use jsp_beside::InParts;
 use jsp_core::{Keeping, LiveImage};
 use jsp_model::{
     Backlog, Config, House, Image, Input, Settled, SpaceCounts, Step, Stopped, TransactionCounts,
@@ -26,6 +29,8 @@ pub struct StateHouse<K> {
     image: LiveImage,
     /// The spaces that stopped calls left to be made quiet, each once.
     debt: Vec<u64>,
+    /// Those that the last call left besides, which was made beside them.
+    latest: Vec<u64>,
     /// The length up to which calls may fill the log.
     bound: Option<u64>,
     keeping: PhantomData<K>,
@@ -50,7 +55,7 @@ impl StateHouse<OneByOne> {
     /// The empty house of a config. It owes nothing, and its log has no bound.
     pub fn new(alloc: Global, config: &Config) -> Result<RowsHouse, NoMemory>
         ensures view { IfOk result (λ h. h.image ≡ empty config.now) }
-        ensures debt { IfOk result (λ h. h.debt.items ≡ []) }
+        ensures debt { IfOk result (λ h. h.debt.items ++ h.latest.items ≡ []) }
         ensures bound { IfOk result (λ h. h.bound ≡ None) }
     {
         StateHouse::keeping(alloc, config, Keeping::Scanned)
@@ -62,7 +67,7 @@ impl StateHouse<ByHints> {
     /// comes from the seed, which clients aren't to know: then none can aim many rows at one list.
     pub fn new(alloc: Global, config: &Config, seed: u64) -> Result<Hall, NoMemory>
         ensures view { IfOk result (λ h. h.image ≡ empty config.now) }
-        ensures debt { IfOk result (λ h. h.debt.items ≡ []) }
+        ensures debt { IfOk result (λ h. h.debt.items ++ h.latest.items ≡ []) }
         ensures bound { IfOk result (λ h. h.bound ≡ None) }
     {
         StateHouse::keeping(alloc, config, Keeping::Hinted { seed })
@@ -79,7 +84,7 @@ impl<K> StateHouse<K> {
     /// The empty house of a config, with its rows kept so.
     fn keeping(alloc: Global, config: &Config, keeping: Keeping) -> Result<StateHouse<K>, NoMemory>
         ensures view { IfOk result (λ h. h.image ≡ empty config.now) }
-        ensures debt { IfOk result (λ h. h.debt.items ≡ []) }
+        ensures debt { IfOk result (λ h. h.debt.items ++ h.latest.items ≡ []) }
         ensures bound { IfOk result (λ h. h.bound ≡ None) }
     {
         let image = LiveImage::of(alloc, empty_image(alloc, config)?, keeping)?.known_steady();
@@ -87,6 +92,7 @@ impl<K> StateHouse<K> {
             alloc,
             image,
             debt: Vec::new(alloc),
+            latest: Vec::new(alloc),
             bound: None,
             keeping: PhantomData,
         })
@@ -96,11 +102,14 @@ impl<K> StateHouse<K> {
 impl<K> House for StateHouse<K> {
     ghost view = { λ h. h.image };
 
-    ghost debt = { λ h. h.debt.items };
+    ghost debt = { λ h. h.debt.items ++ h.latest.items };
 
     ghost bound_of = { λ h. h.bound };
 
     fn make_ready(&mut self, input: &Input, log: &mut Vec<Step>) -> Result<(), Why> {
+        if let Err(stopped) = join(&mut self.debt, &mut self.latest) {
+            return Err(stopped.why);
+        }
         make_ready(
             self.alloc,
             &mut self.image,
@@ -112,6 +121,9 @@ impl<K> House for StateHouse<K> {
     }
 
     fn act(&mut self, input: Input, log: &mut Vec<Step>) -> Result<(), Stopped> {
+        if let Err(stopped) = join(&mut self.debt, &mut self.latest) {
+            return Err(stopped);
+        }
         act(
             self.alloc,
             &mut self.image,
@@ -123,6 +135,9 @@ impl<K> House for StateHouse<K> {
     }
 
     fn act_ready(&mut self, input: Input, log: &mut Vec<Step>) -> Result<(), Stopped> {
+        if let Err(stopped) = join(&mut self.debt, &mut self.latest) {
+            return Err(stopped);
+        }
         act_ready(
             self.alloc,
             &mut self.image,
@@ -134,10 +149,16 @@ impl<K> House for StateHouse<K> {
     }
 
     fn settle(&mut self, log: &mut Vec<Step>) -> Result<Settled, Stopped> {
+        if let Err(stopped) = join(&mut self.debt, &mut self.latest) {
+            return Err(stopped);
+        }
         settle(self.alloc, &mut self.image, &mut self.debt, self.bound, log)
     }
 
     fn finish(&mut self, log: &mut Vec<Step>) -> Result<(), Stopped> {
+        if let Err(stopped) = join(&mut self.debt, &mut self.latest) {
+            return Err(stopped);
+        }
         clear(
             self.alloc,
             &mut self.image,
@@ -215,5 +236,46 @@ impl<K> Backlog for StateHouse<K> {
 
     fn next_told(&mut self) -> Option<u64> {
         self.image.next_told()
+    }
+}
+
+impl<K> InParts for StateHouse<K> {
+    fn make_ready_beside(&mut self, input: &Input, log: &mut Vec<Step>) -> Result<(), Why> {
+        if let Err(stopped) = join(&mut self.debt, &mut self.latest) {
+            return Err(stopped.why);
+        }
+        let result = make_ready(
+            self.alloc,
+            &mut self.image,
+            &mut self.latest,
+            input,
+            self.bound,
+            log,
+        );
+        match result {
+            Ok(()) => self.latest.clear(),
+            Err(_) => forget_owed(&mut self.latest, self.debt.as_slice()),
+        }
+        result
+    }
+
+    fn act_beside(&mut self, input: Input, log: &mut Vec<Step>) -> Result<(), Stopped> {
+        if let Err(stopped) = join(&mut self.debt, &mut self.latest) {
+            return Err(stopped);
+        }
+        let result = act_ready(
+            self.alloc,
+            &mut self.image,
+            &mut self.latest,
+            input,
+            self.bound,
+            log,
+        );
+        forget_owed(&mut self.latest, self.debt.as_slice());
+        result
+    }
+
+    fn next_time(&mut self, reading: u64) -> u64 {
+        next_time(self.alloc, &mut self.image, reading)
     }
 }

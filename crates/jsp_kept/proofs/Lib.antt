@@ -8,5 +8,6 @@ mod Beginning
 mod Sealing
 mod Growing
 mod Ending
+mod Besides
 mod Turning
 mod Passing

@@ -2,3 +2,4 @@ pub mod Counts
 pub mod History
 pub mod Calls
 pub mod Eras
+pub mod Parts

@@ -151,8 +151,8 @@ impl<H: House, A: Ledger, O: Ledger> Kept<H, A, O> {
     }
 }
 
-// How many steps of its own the act made.
-fn own_steps(accepted: bool, answer: &Result<(), Stopped>) -> u64
+/// How many steps of its own the act made.
+pub(crate) fn own_steps(accepted: bool, answer: &Result<(), Stopped>) -> u64
     ensures { result ≡ made accepted answer.now }
 {
     match answer {

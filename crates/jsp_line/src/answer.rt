@@ -5,14 +5,14 @@ use crate::half::{Health, OutHalf, Sent, Start};
 use crate::hangup::Hangup;
 use crate::shared::Shared;
 use crate::slot::Slot;
-use jsp_kept::Backlog;
+use jsp_kept::InParts;
 use jsp_model::Why;
 use std::io::Write;
 use std::sync::ledger::Ledger;
 use std::sync::{Mutex, Wait};
 use std::time::Clock;
 
-impl<H: Backlog, A: Ledger, O: Ledger, G: Gate, C, T: Wait + Clock> Shared<'_, H, A, O, G, C, T> {
+impl<H: InParts, A: Ledger, O: Ledger, G: Gate, C, T: Wait + Clock> Shared<'_, H, A, O, G, C, T> {
     /// Tells the gate what was written, with no lock held, and shuts the session of a broken line.
     pub(crate) fn tell(&self, session: u64, sent: Sent) {
         if sent.health != Health::Sound {
@@ -54,9 +54,9 @@ impl<H: Backlog, A: Ledger, O: Ledger, G: Gate, C, T: Wait + Clock> Shared<'_, H
         Ok(())
     }
 
-    /// Writes what others' acts cause for the line, until its session is closed and nothing waits. Then the
-    /// connection is ended: whatever closed the session, nobody waits for more at either end. At the
-    /// first seal what the line keeps is dropped.
+    /// Writes what others' acts cause for the line, until its session is closed and nothing waits.
+    /// Then the connection is ended: whatever closed the session, nobody waits for more at either
+    /// end. At the first seal what the line keeps is dropped.
     pub(crate) fn answer_all<W: Write, S: Start, X: Hangup>(
         &self,
         half: &Mutex<OutHalf<O, W, S>>,

@@ -47,8 +47,8 @@ impl<R: Read> Counted<R> {
 }
 
 impl<W: Write> Counted<W> {
-    /// One write of a rest that isn't empty: how many bytes it took. Where it took none it failed, and
-    /// that is counted.
+    /// One write of a rest that isn't empty: how many bytes it took. Where it took none it failed,
+    /// and that is counted.
     pub(crate) fn write_once(&mut self, rest: &[u8]) -> usize
         requires { 0 < length rest.now }
         ensures bound { result ≤ length rest.now }

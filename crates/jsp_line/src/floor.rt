@@ -1,15 +1,17 @@
 //! One lock round the history, a signal for each line and one for settling.
-ghost use Rattle.std.specs.Prelude.{◌≡◌, ◌<◌, IsTrue, IfOk, length, vec_len};
-ghost use Rattle.jsp_drive.specs.Line.{is_line_input};
-ghost use Rattle.jsp_line.specs.Seats.{Asks, IsSeated, taking};
+ghost use Rattle.std.specs.Prelude.{◌≡◌, ◌<◌, [], Ok, IsTrue, IfOk, length, vec_len};
+ghost use Rattle.jsp_model.specs.declared.house.Input.{Input as OfInput};
+ghost use Rattle.jsp_model.specs.House.{IsReady, is_input};
+ghost use Rattle.jsp_kept.specs.Calls.{IsOf};
+ghost use Rattle.jsp_line.specs.declared.floor.Part.TheVariants.{NotYet};
+ghost use Rattle.jsp_line.specs.Seats.{Asks, IsNotYet, IsSeated, taking};
 ghost use Rattle.jsp_line.specs.Halves.{said_in};
 
 use crate::counts::Counts;
 use crate::locked::{Left, Locked};
 use crate::notes::ShutFor;
-use jsp_drive::LineInput;
-use jsp_kept::{AskSeat, Backlog, Kept, OutSeat};
-use jsp_model::{Settled, Step, Stopped};
+use jsp_kept::{AskSeat, InParts, Kept, OutSeat};
+use jsp_model::{Input, Settled, Step, Stopped, Why};
 use jsp_reply::{Refusal, Reply, Said};
 use jsp_types::NoMemory;
 use std::alloc::Global;
@@ -17,7 +19,7 @@ use std::sync::atomic::{AtomicBool, AtomicU64, Ordering};
 use std::sync::ledger::Ledger;
 use std::sync::{Condvar, Mutex, MutexGuard, Wait};
 use std::time::Duration;
-use std::{hint, time};
+use std::{hint, thread, time};
 
 /// Most answers that one hold of the lock takes.
 const MOST: u64 = 16;
@@ -34,27 +36,52 @@ const PAUSES: u32 = 8;
 /// For how long, in milliseconds, the clock isn't read while nothing is to do.
 const REST: u64 = 10;
 
+/// How many steps one part of an act or of a turn makes at most: they take less than a millisecond.
+const STEPS: u64 = 128;
+
+/// How many steps a line makes at most of what is to be made before its act, in one hold. Most of it
+/// is the settling worker's: a hundred lines that wait for one space would else hold up all others.
+const STEPS_BEFORE: u64 = 16;
+
+/// By how many ends the clock goes on in one hold.
+const MOST_ENDS: u32 = 16;
+
+/// For how long, in microseconds, a thread leaves the lock between two parts.
+const MOMENT: u64 = 20;
+
+/// How often a thread lets others go first between two parts, at most.
+const MOST_YIELDS: u32 = 10_000;
+
 /// A house with its history under one lock, and what its lines and its settling worker wait on.
 ///
 /// Of locks a thread takes that of its line's writing half first, then this one.
 #[derive(Drop)]
-pub struct Floor<H: Backlog, A: Ledger, O: Ledger> {
+pub struct Floor<H: InParts, A: Ledger, O: Ledger> {
     locked: Mutex<Locked<H, A, O>>,
     lines: Vec<Condvar>,
     settling: Condvar,
     /// The last reading of the clock that was acted. It is set under the lock.
     time: AtomicU64,
-    /// How many bytes lines read and wrote since they were last too many for an era. It is set under the lock.
+    /// How many bytes lines read and wrote since they were last too many for an era. It is set
+    /// under the lock.
     bytes: AtomicU64,
     most_bytes: u64,
     most_waiting: u64,
-    /// Whether an act may have left sessions open for which too many answers wait. It is set under the lock.
+    /// Whether an act may have left sessions open for which too many answers wait. It is set under
+    /// the lock.
     are_more_over: AtomicBool,
+    /// Whether an act left something to be made, so that the settling worker doesn't rest. It is
+    /// set under the lock.
+    is_left: AtomicBool,
+    /// How often the lock was wanted, and how often it was had.
+    wanted: AtomicU64,
+    had: AtomicU64,
     /// Whether all lines have ended. It is set under the lock.
     ended: AtomicBool,
     /// Whether an era is known to be sealed, and lines keep no bytes. It is set under the lock.
     is_sealed: AtomicBool,
-    /// How many refusals of each number were taken: the number is the place. They are set under the lock.
+    /// How many refusals of each number were taken: the number is the place. They are set under the
+    /// lock.
     refusals: Vec<AtomicU64>,
     /// How many spaces there are.
     spaces: usize,
@@ -75,7 +102,7 @@ pub(crate) enum Call {
 /// What one hold of the lock gave a line that asked.
 #[derive(Drop)]
 pub(crate) struct Held {
-    pub(crate) acted: Result<(), Stopped>,
+    pub(crate) acted: Result<Part, Stopped>,
     pub(crate) said: Result<Vec<Said>, Stopped>,
     pub(crate) is_open: bool,
     pub(crate) is_sealed: bool,
@@ -88,7 +115,8 @@ pub(crate) struct Held {
 /// What a settle turn gave.
 #[derive(Drop)]
 pub(crate) struct Turned {
-    pub(crate) settled: Result<Settled, Stopped>,
+    /// Nothing, where more is to be made before or behind it.
+    pub(crate) settled: Result<Option<Settled>, Stopped>,
     /// Whether a transaction votes after it.
     pub(crate) is_voting: bool,
     /// A session that was shut, since its client reads no answers.
@@ -97,35 +125,89 @@ pub(crate) struct Turned {
     pub(crate) ended: bool,
 }
 
-/// An act, after a reading of the clock, if there is one.
-fn act_at<H: Backlog, A: Ledger, O: Ledger>(
-    kept: &mut Kept<H, A, O>,
-    seat: &mut AskSeat<A>,
-    time: Option<u64>,
-    given: LineInput,
-) -> Result<(), Stopped>
-    requires { IsTrue (is_line_input given) }
-    ensures { Asks seat.old seat.new }
-{
-    if let Some(time) = time {
-        kept.clock(time)?;
-    }
-    kept.act(seat, given)
+/// How far a part of an act came.
+#[derive(Drop)]
+pub(crate) enum Part {
+    /// All is made that follows from it.
+    Done,
+    /// Its own step is made, and the settling worker is to go on.
+    Left,
+    /// Its own step isn't made: something else was to be made first, and more is.
+    NotYet(Input),
 }
 
-/// A settle turn, after a reading of the clock, if there is one.
-fn settle_at<H: Backlog, A: Ledger, O: Ledger>(
+/// An act, once the clock went on, where nothing is to be made before it; else a part of that.
+fn act_at<H: InParts, A: Ledger, O: Ledger>(
     kept: &mut Kept<H, A, O>,
-    time: Option<u64>,
-) -> Result<Settled, Stopped> {
-    if let Some(time) = time {
-        kept.clock(time)?;
+    seat: &mut AskSeat<A>,
+    went: Result<(), Stopped>,
+    input: Input,
+) -> Result<Part, Stopped>
+    requires input { IsTrue (is_input input) }
+    requires of { IsOf seat.old.session input }
+    ensures asks { Asks seat.old seat.new }
+    ensures not_yet { (x : OfInput) → result ≡ Ok (NotYet x) → IsNotYet seat.old seat.new x }
+{
+    if let Err(stopped) = went {
+        return Err(stopped);
     }
-    kept.settle()
+    match kept.make_ready_some(&input, STEPS_BEFORE) {
+        Ok(()) => act_ready(kept, seat, input),
+        Err(Why::EraFull) => Ok(Part::NotYet(input)),
+        Err(why) => Err(Stopped { why, done: false }),
+    }
+}
+
+/// An act that the house was made ready for.
+fn act_ready<H: InParts, A: Ledger, O: Ledger>(
+    kept: &mut Kept<H, A, O>,
+    seat: &mut AskSeat<A>,
+    input: Input,
+) -> Result<Part, Stopped>
+    requires input { IsTrue (is_input input) }
+    requires of { IsOf seat.old.session input }
+    requires ready { IsReady kept.old.state [] input }
+    ensures asks { Asks seat.old seat.new }
+    ensures made { (x : OfInput) → result ≡ Ok (NotYet x) → ⊥ }
+{
+    match kept.act_beside(seat, input, STEPS) {
+        Ok(()) => Ok(Part::Done),
+        Err(stopped) if stopped.done && stopped.why == Why::EraFull => Ok(Part::Left),
+        Err(stopped) => Err(stopped),
+    }
+}
+
+/// A reading of the clock, where nothing is to be made before it, else a part of that. It says
+/// whether it was acted.
+fn clock_at<H: InParts, A: Ledger, O: Ledger>(
+    kept: &mut Kept<H, A, O>,
+    time: u64,
+) -> Result<bool, Stopped> {
+    match kept.make_ready_some(&Input::Clock { time }, STEPS_BEFORE) {
+        Ok(()) => {}
+        Err(Why::EraFull) => return Ok(false),
+        Err(why) => return Err(Stopped { why, done: false }),
+    }
+    match kept.clock_beside(time, STEPS) {
+        Ok(()) => Ok(true),
+        Err(stopped) if stopped.done && stopped.why == Why::EraFull => Ok(true),
+        Err(stopped) => Err(stopped),
+    }
+}
+
+/// A settle turn, or a part of what is to be made before or behind it.
+fn settle_at<H: InParts, A: Ledger, O: Ledger>(
+    kept: &mut Kept<H, A, O>,
+) -> Result<Option<Settled>, Stopped> {
+    match kept.settle_some(STEPS) {
+        Ok(settled) => Ok(Some(settled)),
+        Err(stopped) if stopped.why == Why::EraFull => Ok(None),
+        Err(stopped) => Err(stopped),
+    }
 }
 
 /// The next answers of a line.
-fn take_from<H: Backlog, A: Ledger, O: Ledger>(
+fn take_from<H: InParts, A: Ledger, O: Ledger>(
     kept: &mut Kept<H, A, O>,
     outs: &mut OutSeat<O>,
 ) -> Result<Vec<Said>, Stopped>
@@ -134,19 +216,21 @@ fn take_from<H: Backlog, A: Ledger, O: Ledger>(
     kept.hand_out(outs, MOST)
 }
 
-/// An act of a line, and its next answers.
-fn hold<H: Backlog, A: Ledger, O: Ledger>(
+/// A part of an act of a line, and its next answers.
+fn hold<H: InParts, A: Ledger, O: Ledger>(
     kept: &mut Kept<H, A, O>,
     asks: &mut AskSeat<A>,
-    time: Option<u64>,
-    given: LineInput,
+    went: Result<(), Stopped>,
+    input: Input,
     outs: &mut OutSeat<O>,
 ) -> Held
-    requires { IsTrue (is_line_input given) }
+    requires input { IsTrue (is_input input) }
+    requires of { IsOf asks.old.session input }
     ensures asks { Asks asks.old asks.new }
+    ensures not_yet { (x : OfInput) → result.acted ≡ Ok (NotYet x) → IsNotYet asks.old asks.new x }
     ensures outs { outs.new ≡ taking outs.old (length (said_in result.said)) }
 {
-    let acted = act_at(kept, asks, time, given);
+    let acted = act_at(kept, asks, went, input);
     let said = take_from(kept, outs);
     Held {
         acted,
@@ -158,9 +242,9 @@ fn hold<H: Backlog, A: Ledger, O: Ledger>(
     }
 }
 
-impl<H: Backlog, A: Ledger, O: Ledger> Floor<H, A, O> {
-    /// Puts a lock round a history, for so many lines at once. After so many bytes that lines read and wrote a new
-    /// era begins, and a session for which more answers wait than so many is shut.
+impl<H: InParts, A: Ledger, O: Ledger> Floor<H, A, O> {
+    /// Puts a lock round a history, for so many lines at once. After so many bytes that lines read
+    /// and wrote a new era begins, and a session for which more answers wait than so many is shut.
     pub fn new(
         alloc: Global,
         kept: Kept<H, A, O>,
@@ -178,6 +262,9 @@ impl<H: Backlog, A: Ledger, O: Ledger> Floor<H, A, O> {
             most_bytes,
             most_waiting,
             are_more_over: AtomicBool::new(false),
+            is_left: AtomicBool::new(false),
+            wanted: AtomicU64::new(0),
+            had: AtomicU64::new(0),
             ended: AtomicBool::new(false),
             is_sealed: AtomicBool::new(false),
             refusals: zeros(alloc)?,
@@ -185,9 +272,17 @@ impl<H: Backlog, A: Ledger, O: Ledger> Floor<H, A, O> {
         })
     }
 
-    // The history, once no other thread has it. To sleep for it costs more than most holds of it take, so it is tried
-    // for some microseconds first.
+    // The history, once no other thread has it. Who wants it is counted.
     fn lock<T: Wait>(&self, rt: &T) -> MutexGuard<'_, Locked<H, A, O>> {
+        self.wanted.fetch_add(1, Ordering::SeqCst);
+        let locked = self.lock_soon(rt);
+        self.had.fetch_add(1, Ordering::SeqCst);
+        locked
+    }
+
+    // To sleep for the lock costs more than most holds of it take, so it is tried for some
+    // microseconds first.
+    fn lock_soon<T: Wait>(&self, rt: &T) -> MutexGuard<'_, Locked<H, A, O>> {
         for _ in 0..TRIES {
             if let Some(locked) = self.locked.try_lock() {
                 return locked;
@@ -199,23 +294,45 @@ impl<H: Backlog, A: Ledger, O: Ledger> Floor<H, A, O> {
         self.locked.lock(rt)
     }
 
+    /// Waits until all have had the lock who want it by now, so that parts of one act, back to
+    /// back, pass nobody over, and for a moment besides, in which who was woken can ask for it. No
+    /// lock is held.
+    pub(crate) fn give_way<T: time::Clock>(&self, rt: &T) {
+        thread::sleep(rt, Duration::from_micros(MOMENT));
+        let wanted = self.wanted.load(Ordering::SeqCst);
+        for _ in 0..MOST_YIELDS {
+            if self.had.load(Ordering::SeqCst) >= wanted {
+                return;
+            }
+            thread::yield_now();
+        }
+    }
+
     // The signal of a session's line. Sessions may share one, so all that wait on it are woken.
     fn signal(&self, session: u64) -> &Condvar {
         &self.lines[session as usize % self.lines.len()]
     }
 
-    // The reading of the clock, where it is above the last one that was acted, whichever line acted that: so
-    // the clock is acted once a millisecond, and not by each line. The lock is held.
-    fn later(&self, time: u64) -> Option<u64> {
-        if time <= self.time.load(Ordering::SeqCst) {
-            return None;
+    // Lets the clock go on towards a reading, by a few ends at most, one at a time: so it is acted
+    // once a millisecond, and not by each line. It waits for spaces that aren't quiet where
+    // something ends in them. The lock is held.
+    fn go_on(&self, kept: &mut Kept<H, A, O>, reading: u64) -> Result<(), Stopped> {
+        for _ in 0..MOST_ENDS {
+            let now = self.time.load(Ordering::SeqCst);
+            if reading <= now {
+                break;
+            }
+            let time = kept.next_time(reading);
+            if time <= now || !clock_at(kept, time)? {
+                break;
+            }
+            self.time.store(time, Ordering::SeqCst);
         }
-        self.time.store(time, Ordering::SeqCst);
-        Some(time)
+        Ok(())
     }
 
-    // Counts what a line read and wrote, and begins a new era where that is too much for one: its steps hold what was
-    // read, and its lines keep both. The lock is held.
+    // Counts what a line read and wrote, and begins a new era where that is too much for one: its
+    // steps hold what was read, and its lines keep both. The lock is held.
     fn weigh(&self, kept: &mut Kept<H, A, O>, bytes: u64) {
         let all = self.bytes.load(Ordering::SeqCst).saturating_add(bytes);
         let is_over = all > self.most_bytes;
@@ -226,9 +343,10 @@ impl<H: Backlog, A: Ledger, O: Ledger> Floor<H, A, O> {
         self.bytes.store(left, Ordering::SeqCst);
     }
 
-    // Wakes the line of each session that was told something since they were woken last and has answers waiting, but
-    // that of the session whose own thread takes them. The first for which too many wait is shut, and answered: its
-    // client reads none, and holds up nobody else. Others are shut at the next acts. The lock is held.
+    // Wakes the line of each session that was told something since they were woken last and has
+    // answers waiting, but that of the session whose own thread takes them. The first for which too
+    // many wait is shut, and answered: its client reads none, and holds up nobody else. Others are
+    // shut at the next acts. The lock is held.
     fn wake_lines<T: Wait>(
         &self,
         rt: &T,
@@ -258,7 +376,8 @@ impl<H: Backlog, A: Ledger, O: Ledger> Floor<H, A, O> {
         shut
     }
 
-    // Where an act left sessions open for which too many answers wait, the first is shut, and answered. The lock is held.
+    // Where an act left sessions open for which too many answers wait, the first is shut, and
+    // answered. The lock is held.
     fn shut_left_over<T: Wait>(&self, rt: &T, locked: &mut Locked<H, A, O>) -> Option<u64> {
         if !self.are_more_over.load(Ordering::SeqCst) {
             return None;
@@ -303,7 +422,8 @@ impl<H: Backlog, A: Ledger, O: Ledger> Floor<H, A, O> {
         }
     }
 
-    /// Counts what stands in the house, in one hold of the lock, for which all memory was taken before.
+    /// Counts what stands in the house, in one hold of the lock, for which all memory was taken
+    /// before.
     pub(crate) fn count<T: Wait>(&self, rt: &T, alloc: Global) -> Result<Counts, NoMemory> {
         let mut refusals = Vec::with_capacity(alloc, self.refusals.len())?;
         let mut spaces = Vec::with_capacity(alloc, self.spaces)?;
@@ -327,50 +447,64 @@ impl<H: Backlog, A: Ledger, O: Ledger> Floor<H, A, O> {
     }
 
     /// Opens a session, and answers its two seats.
-    pub fn begin<T: Wait>(&self, rt: &T) -> Result<(AskSeat<A>, OutSeat<O>), Stopped>
+    pub fn begin<T: Wait + time::Clock>(&self, rt: &T) -> Result<(AskSeat<A>, OutSeat<O>), Stopped>
         ensures { IfOk result (λ s. IsSeated s.0 s.1) }
     {
-        self.locked.lock(rt).begin()
+        for _ in rt.forever() {
+            let mut locked = self.lock(rt);
+            match locked.kept.finish_some(STEPS) {
+                Err(stopped) if stopped.why == Why::EraFull => {}
+                _ => return locked.begin(),
+            }
+            drop(locked);
+            self.give_way(rt);
+        }
+        unreachable!()
     }
 
     /// How the session's line leaves, which has ended.
     pub fn leave<T: Wait>(&self, rt: &T, session: u64) -> Left {
-        self.locked.lock(rt).leave(session)
+        self.lock(rt).leave(session)
     }
 
-    /// An act of a line, which read and wrote so many bytes since its last one, and its next answers, in one hold of
-    /// the lock, after this reading of the clock, where it is a later one. All lines that have answers waiting then are
-    /// woken, and the settling worker where the act was stopped. Where a transaction votes then, its turns are the
-    /// caller's to take. So are steps of an era that is over, as many as there is room for, to be freed.
+    /// A part of an act of a line, which read and wrote so many bytes since its last one, and its
+    /// next answers, in one hold of the lock, after this reading of the clock, where it is a later
+    /// one. All lines that have answers waiting then are woken, and the settling worker where more
+    /// is to be made. Where a transaction votes then, its turns are the caller's to take. So are
+    /// steps of an era that is over, as many as there is room for, to be freed.
     pub(crate) fn act_and_take<T: Wait>(
         &self,
         rt: &T,
         asks: &mut AskSeat<A>,
         time: u64,
         bytes: u64,
-        given: LineInput,
+        input: Input,
         outs: &mut OutSeat<O>,
         old: &mut Vec<Step>,
     ) -> Held
-        requires { IsTrue (is_line_input given) }
+        requires input { IsTrue (is_input input) }
+        requires of { IsOf asks.old.session input }
         ensures asks { Asks asks.old asks.new }
+        ensures not_yet { (x : OfInput) → result.acted ≡ Ok (NotYet x) → IsNotYet asks.old asks.new x }
         ensures outs { outs.new ≡ taking outs.old (length (said_in result.said)) }
     {
         let mut guard = self.lock(rt);
         let locked = &mut *guard;
         self.weigh(&mut locked.kept, bytes);
         locked.kept.take_old(old);
-        let mut held = hold(&mut locked.kept, asks, self.later(time), given, outs);
+        let went = self.go_on(&mut locked.kept, time);
+        let mut held = hold(&mut locked.kept, asks, went, input, outs);
         self.note_refusals(&held.said);
         held.shut = self.wake_lines(rt, locked, None);
-        if held.acted.is_err() {
+        if !matches!(held.acted, Ok(Part::Done)) {
+            self.is_left.store(true, Ordering::SeqCst);
             self.settling.notify_all();
         }
         held
     }
 
-    /// The next answers of a line, if there are any, which read and wrote so many bytes since its last act, and whether
-    /// an era was sealed.
+    /// The next answers of a line, if there are any, which read and wrote so many bytes since its
+    /// last act, and whether an era was sealed.
     pub(crate) fn take<T: Wait>(
         &self,
         rt: &T,
@@ -390,7 +524,7 @@ impl<H: Backlog, A: Ledger, O: Ledger> Floor<H, A, O> {
     /// Waits until something waits for the session, or it is closed, or an era was sealed, where
     /// its line wasn't told of one.
     pub(crate) fn wait_for<T: Wait>(&self, rt: &T, session: u64, is_told: bool) -> Call {
-        let mut locked = self.locked.lock(rt);
+        let mut locked = self.lock(rt);
         for _ in rt.forever() {
             if !locked.kept.is_open(session) {
                 return Call::Closed;
@@ -408,21 +542,21 @@ impl<H: Backlog, A: Ledger, O: Ledger> Floor<H, A, O> {
 
     /// Closes the session for its own line, if it is open, and wakes that, which ends.
     pub fn shut<T: Wait>(&self, rt: &T, session: u64) {
-        let mut locked = self.locked.lock(rt);
+        let mut locked = self.lock(rt);
         locked.kept.shut(session);
         self.signal(session).notify_all();
     }
 
     /// Closes the session by itself, if it is open, notes why, and wakes its line, which ends.
     pub fn shut_for<T: Wait>(&self, rt: &T, session: u64, why: ShutFor) {
-        let mut locked = self.locked.lock(rt);
+        let mut locked = self.lock(rt);
         locked.shut_for(session, why);
         self.signal(session).notify_all();
     }
 
     /// Whether the session is open.
     pub fn is_open<T: Wait>(&self, rt: &T, session: u64) -> bool {
-        self.locked.lock(rt).kept.is_open(session)
+        self.lock(rt).kept.is_open(session)
     }
 
     /// Whether an era is known to be sealed, and lines keep no bytes.
@@ -443,15 +577,17 @@ impl<H: Backlog, A: Ledger, O: Ledger> Floor<H, A, O> {
 
     // Whether an era was sealed, which is known from then on.
     fn sees_seal<T: Wait>(&self, rt: &T) -> bool {
-        let locked = self.locked.lock(rt);
+        let locked = self.lock(rt);
         let is_sealed = locked.kept.is_sealed();
         self.is_sealed.store(is_sealed, Ordering::SeqCst);
         is_sealed
     }
 
-    /// A settle turn, after this reading of the clock, where it is a later one. All lines that have answers
-    /// waiting then are woken, but that of the caller's own session, where it has one and takes them itself. Steps of an
-    /// era that is over are the caller's to free, as many as there is room for.
+    /// A settle turn, or a part of it, after this reading of the clock, where it is a later one.
+    /// All lines that have answers waiting then are woken, but that of the caller's own session,
+    /// where it has one and takes them itself, and the settling worker where it isn't the caller
+    /// and more is to be made. Steps of an era that is over are the caller's to free, as many as
+    /// there is room for.
     pub(crate) fn settle<T: Wait>(
         &self,
         rt: &T,
@@ -462,7 +598,15 @@ impl<H: Backlog, A: Ledger, O: Ledger> Floor<H, A, O> {
         let mut guard = self.lock(rt);
         let locked = &mut *guard;
         locked.kept.take_old(old);
-        let settled = settle_at(&mut locked.kept, self.later(time));
+        let settled = match self.go_on(&mut locked.kept, time) {
+            Ok(()) => settle_at(&mut locked.kept),
+            Err(stopped) => Err(stopped),
+        };
+        let is_left = !matches!(settled, Ok(Some(_)));
+        self.is_left.store(is_left, Ordering::SeqCst);
+        if is_left && own.is_some() {
+            self.settling.notify_all();
+        }
         Turned {
             settled,
             is_voting: locked.kept.is_voting(),
@@ -471,11 +615,12 @@ impl<H: Backlog, A: Ledger, O: Ledger> Floor<H, A, O> {
         }
     }
 
-    /// Waits until something is to settle, or the clock is to be read. After a turn that was stopped
-    /// it waits though something is to settle.
+    /// Waits until something is to settle, or the clock is to be read. After a turn that was
+    /// stopped it waits though something is to settle.
     pub(crate) fn rest<T: Wait + time::Clock>(&self, rt: &T, was_stopped: bool) {
-        let locked = self.locked.lock(rt);
-        if self.ended.load(Ordering::SeqCst) || locked.kept.is_voting() && !was_stopped {
+        let locked = self.lock(rt);
+        let is_left = self.is_left.load(Ordering::SeqCst) || locked.kept.is_voting();
+        if self.ended.load(Ordering::SeqCst) || is_left && !was_stopped {
             return;
         }
         let (_locked, _timed_out) = self
@@ -490,7 +635,7 @@ impl<H: Backlog, A: Ledger, O: Ledger> Floor<H, A, O> {
 
     /// Tells the settling worker that all lines have ended.
     pub fn end<T: Wait>(&self, rt: &T) {
-        let _locked = self.locked.lock(rt);
+        let _locked = self.lock(rt);
         self.ended.store(true, Ordering::SeqCst);
         self.settling.notify_all();
     }
@@ -506,6 +651,9 @@ impl<H: Backlog, A: Ledger, O: Ledger> Floor<H, A, O> {
             most_bytes: _,
             most_waiting: _,
             are_more_over: _,
+            is_left: _,
+            wanted: _,
+            had: _,
             ended: _,
             is_sealed: _,
             refusals: _,

@@ -1,9 +1,10 @@
 //! The half of a line that writes, which both of its threads lock.
 ghost use Rattle.std.specs.Prelude.{◌≡◌, ◌≤◌, ◌<◌, ◌+◌, ◌++◌, ◌==◌, ℕ, List, [], true, false, not, length, take, Err, IfOk, IfErr, OnOk, OnErr, IsTrue};
 ghost use Rattle.std.specs.Io.KnownBytes.{Appends};
-ghost use Rattle.jsp_drive.specs.Line.{is_line_input};
 ghost use Rattle.jsp_line.specs.Bytes.{saturated};
-ghost use Rattle.jsp_line.specs.Seats.{Asks};
+ghost use Rattle.jsp_model.specs.House.{is_input};
+ghost use Rattle.jsp_kept.specs.Calls.{IsOf};
+ghost use Rattle.jsp_line.specs.Seats.{Asks, IsNotYet};
 ghost use Rattle.jsp_line.specs.declared.half.Health.TheVariants.{Failed};
 ghost use Rattle.jsp_line.specs.Bytes.{IsTranscript};
 ghost use Rattle.jsp_drive.specs.Heard.{framed};
@@ -11,11 +12,11 @@ ghost use Rattle.jsp_drive.specs.Bytes.{frames};
 ghost use Rattle.jsp_line.specs.Halves.{is_sound, said_in, Puts, Writes, WritesPile};
 
 use crate::counted::Counted;
-use crate::floor::{Floor, Held};
+use crate::floor::{Floor, Held, Part};
 use crate::transcript::Transcript;
-use jsp_drive::{LineInput, encode};
-use jsp_kept::{AskSeat, Backlog, MOST_OLD, OutSeat};
-use jsp_model::{Step, Stopped, Why};
+use jsp_drive::encode;
+use jsp_kept::{AskSeat, InParts, MOST_OLD, OutSeat};
+use jsp_model::{Input, Step, Stopped, Why};
 use jsp_reply::Said;
 use jsp_types::NoMemory;
 use std::alloc::Global;
@@ -26,7 +27,8 @@ use std::sync::ledger::Ledger;
 use std::thread;
 use std::time::{Clock, Duration};
 
-/// How often memory is asked for again where an answer finds none: what is answered was done, and can't be done again.
+/// How often memory is asked for again where an answer finds none: what is answered was done, and
+/// can't be done again.
 const TRIES: u64 = 100;
 
 /// After how many milliseconds it is asked for again.
@@ -82,7 +84,8 @@ pub struct OutHalf<O: Ledger, W: Write, S: Start> {
     told: u64,
     /// How many bytes went through it since the house was told of them.
     bytes: u64,
-    /// Steps of an era that is over, which acts of the line took out of the house. They are freed behind the next write.
+    /// Steps of an era that is over, which acts of the line took out of the house. They are freed
+    /// behind the next write.
     past: Vec<Step>,
     of: PhantomData<S>,
 }
@@ -118,6 +121,14 @@ impl Acted {
             (Ok(()), Ok(_)) => None,
         }
     }
+}
+
+/// An act that isn't made yet: more is to be made before it.
+#[derive(Drop)]
+pub(crate) struct NotYet {
+    pub(crate) input: Input,
+    /// A session that was shut, since its client reads no answers.
+    pub(crate) shut: Option<u64>,
 }
 
 /// What was written since the gate was told last.
@@ -301,45 +312,53 @@ impl<O: Ledger, W: Write, S: Start> OutHalf<O, W, S> {
         }
     }
 
-    /// An act of the line, behind which so many bytes were read since the last one, with the answers that wait after it.
-    /// They are to be written before the line reads again; where many wait to be written it is done here, without the house's lock.
-    pub(crate) fn act<H: Backlog, A: Ledger, T: Wait + Clock>(
+    /// An act of the line, behind which so many bytes were read since the last one, with the
+    /// answers that wait after it; or a part of what is to be made before it. The answers are to be
+    /// written before the line reads again; where many wait to be written it is done here, without
+    /// the house's lock.
+    pub(crate) fn act<H: InParts, A: Ledger, T: Wait + Clock>(
         &mut self,
         rt: &T,
         floor: &Floor<H, A, O>,
         asks: &mut AskSeat<A>,
         time: u64,
         read: u64,
-        given: LineInput,
-    ) -> Acted
-        requires { IsTrue (is_line_input given) }
+        input: Input,
+    ) -> Result<Acted, NotYet>
+        requires input { IsTrue (is_input input) }
+        requires of { IsOf asks.old.session input }
         ensures asks { Asks asks.old asks.new }
+        ensures not_yet { IfErr result (λ n. IsNotYet asks.old asks.new n.input) }
         ensures session { self.new.seat.session ≡ self.old.seat.session }
     {
         self.bytes = self.bytes.saturating_add(read);
         // Without memory for it no steps are freed.
         let _ = self.past.reserve(MOST_OLD);
-        let mut acted = self.act_and_take(rt, floor, asks, time, given);
-        if is_refused(&acted.received) {
-            acted.received = self.take(rt, floor);
-        }
+        let acted = self.act_and_take(rt, floor, asks, time, input);
         if self.pile.len() > PILE {
             self.write_pile();
         }
-        acted
+        let acted = acted?;
+        if !is_refused(&acted.received) {
+            return Ok(acted);
+        }
+        let received = self.take(rt, floor);
+        Ok(Acted { received, ..acted })
     }
 
-    // An act of the line, with the answers that wait after it.
-    fn act_and_take<H: Backlog, A: Ledger, T: Wait + Clock>(
+    // A part of an act of the line, with the answers that wait after it.
+    fn act_and_take<H: InParts, A: Ledger, T: Wait + Clock>(
         &mut self,
         rt: &T,
         floor: &Floor<H, A, O>,
         asks: &mut AskSeat<A>,
         time: u64,
-        given: LineInput,
-    ) -> Acted
-        requires { IsTrue (is_line_input given) }
+        input: Input,
+    ) -> Result<Acted, NotYet>
+        requires input { IsTrue (is_input input) }
+        requires of { IsOf asks.old.session input }
         ensures asks { Asks asks.old asks.new }
+        ensures not_yet { IfErr result (λ n. IsNotYet asks.old asks.new n.input) }
         ensures session { self.new.seat.session ≡ self.old.seat.session }
     {
         let Held {
@@ -354,7 +373,7 @@ impl<O: Ledger, W: Write, S: Start> OutHalf<O, W, S> {
             asks,
             time,
             self.bytes,
-            given,
+            input,
             &mut self.seat,
             &mut self.past,
         );
@@ -368,18 +387,23 @@ impl<O: Ledger, W: Write, S: Start> OutHalf<O, W, S> {
             said,
             is_sealed,
         );
-        Acted {
-            result: acted,
+        let result = match acted {
+            Ok(Part::NotYet(input)) => return Err(NotYet { input, shut }),
+            Ok(_) => Ok(()),
+            Err(stopped) => Err(stopped),
+        };
+        Ok(Acted {
+            result,
             received,
             is_open,
             is_voting,
             shut,
-        }
+        })
     }
 
-    /// Takes the next answers, and says whether there were any. They wait where no memory is found to take them, and are
-    /// asked for again.
-    pub(crate) fn take<H: Backlog, A: Ledger, T: Wait + Clock>(
+    /// Takes the next answers, and says whether there were any. They wait where no memory is found
+    /// to take them, and are asked for again.
+    pub(crate) fn take<H: InParts, A: Ledger, T: Wait + Clock>(
         &mut self,
         rt: &T,
         floor: &Floor<H, A, O>,
@@ -397,7 +421,7 @@ impl<O: Ledger, W: Write, S: Start> OutHalf<O, W, S> {
         received
     }
 
-    fn take_once<H: Backlog, A: Ledger, T: Wait + Clock>(
+    fn take_once<H: InParts, A: Ledger, T: Wait + Clock>(
         &mut self,
         rt: &T,
         floor: &Floor<H, A, O>,

@@ -3,7 +3,8 @@ use std::sync::atomic::AtomicU64;
 
 /// The connection of a line, which can be ended, and knows how much was asked.
 pub trait Hangup {
-    /// Ends it both ways: whoever waits for its next bytes goes on, and its client sees that it ended.
+    /// Ends it both ways: whoever waits for its next bytes goes on, and its client sees that it
+    /// ended.
     fn hang_up(&self);
 
     /// How many whole frames of it were acted. Its line counts them.

@@ -1,10 +1,11 @@
 //! One line over a history that many lines share: from its bytes to its answers.
 //!
-//! A [`Floor`] is one lock round a `Kept`. Each line has a thread that reads it and a second one that
-//! waits for what others cause. The thread that reads acts each frame and hands out the answers to it
-//! in one hold of the lock, and writes them itself. What a line has taken and written stands behind
-//! a lock of the line's own, [`OutHalf`], whose type keeps that the bytes written are the frames of
-//! the answers taken. The house's lock is held in no read, no write, no gate and no wait.
+//! A [`Floor`] is one lock round a `Kept`. Each line has a thread that reads it and a second one
+//! that waits for what others cause. The thread that reads acts each frame and hands out the
+//! answers to it in one hold of the lock, and writes them itself. What a line has taken and written
+//! stands behind a lock of the line's own, [`OutHalf`], whose type keeps that the bytes written are
+//! the frames of the answers taken. The house's lock is held in no read, no write, no gate and no
+//! wait.
 #![tactic(auto)]
 
 mod answer;

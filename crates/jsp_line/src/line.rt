@@ -16,7 +16,7 @@ use crate::shared::Shared;
 use crate::slot::{Owner, Slot};
 use crate::transcript::Transcript;
 use jsp_drive::Ended;
-use jsp_kept::{AskSeat, Backlog, OutSeat};
+use jsp_kept::{AskSeat, InParts, OutSeat};
 use jsp_model::Why;
 use std::io::{Read, Write};
 use std::marker::Brand;
@@ -36,7 +36,7 @@ pub struct LineDone<A: Ledger, O: Ledger, R: Read, W: Write> {
 }
 
 impl<
-    H: Backlog + Send,
+    H: InParts + Send,
     A: Ledger + Send + Sync,
     O: Ledger + Send + Sync,
     G: Gate + Sync,
@@ -154,8 +154,9 @@ impl<
         }
     }
 
-    /// Serves a line until it ends, with at most `bound` reads: acts what it asks by the bytes read, and
-    /// writes the frames of the answers to it. Once its session is closed its connection is ended.
+    /// Serves a line until it ends, with at most `bound` reads: acts what it asks by the bytes
+    /// read, and writes the frames of the answers to it. Once its session is closed its connection
+    /// is ended.
     pub fn serve_line<R: Read + Send + Drop, W: Write + Send + Drop, X: Hangup + Sync>(
         &self,
         reader: R,

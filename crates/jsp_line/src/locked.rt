@@ -6,14 +6,15 @@ ghost use Rattle.jsp_line.specs.Notes.{noting, reason_of};
 ghost use Rattle.jsp_line.specs.Seats.{IsSeated};
 
 use crate::notes::{Notes, ShutFor};
-use jsp_kept::{AskSeat, Backlog, Kept, OutSeat};
+use jsp_kept::{AskSeat, InParts, Kept, OutSeat};
 use jsp_model::{Stopped, Why};
 use std::alloc::Global;
 use std::sync::ledger::Ledger;
 
-/// The history, and why the floor shut sessions by itself. Once an era was sealed nobody asks for that.
+/// The history, and why the floor shut sessions by itself. Once an era was sealed nobody asks for
+/// that.
 #[derive(Drop)]
-pub(crate) struct Locked<H: Backlog, A: Ledger, O: Ledger> {
+pub(crate) struct Locked<H: InParts, A: Ledger, O: Ledger> {
     pub(crate) kept: Kept<H, A, O>,
     pub(crate) notes: Notes,
 }
@@ -27,7 +28,7 @@ pub struct Left {
     pub shut_for: Option<ShutFor>,
 }
 
-impl<H: Backlog, A: Ledger, O: Ledger> Locked<H, A, O> {
+impl<H: InParts, A: Ledger, O: Ledger> Locked<H, A, O> {
     pub(crate) fn new(alloc: Global, kept: Kept<H, A, O>) -> Locked<H, A, O>
         ensures kept { result.kept ≡ kept }
         ensures notes { result.notes ≡ [] }

@@ -17,8 +17,8 @@ pub enum ShutFor {
     Ending,
 }
 
-/// Why a floor shut sessions by itself: what is noted of the session s stands at the place s - 1. It has that place
-/// before, so that a note takes no memory.
+/// Why a floor shut sessions by itself: what is noted of the session s stands at the place s - 1.
+/// It has that place before, so that a note takes no memory.
 #[derive(Drop)]
 pub(crate) struct Notes {
     reasons: Vec<Option<ShutFor>>,

@@ -7,18 +7,19 @@ ghost use Rattle.jsp_drive.specs.Giving.{Gave, FeedsStream};
 ghost use Rattle.jsp_drive.specs.declared.ended.Ended.TheVariants.{Bound};
 ghost use Rattle.jsp_line.specs.declared.transcript.Transcript.TheVariants.{Dropped};
 ghost use Rattle.jsp_line.specs.Bytes.{saturated, IsTranscript};
+ghost use Rattle.jsp_line.specs.Seats.{Asks};
 ghost use Rattle.jsp_line.specs.Reading.{is_closing, is_acted, Faults, Reads};
 ghost use Rattle.jsp_line.specs.Turns.{ActsOne, ActsAll, ReadsPiece, FaultsOn, GoesOn, ReadsOn};
 
 use crate::counted::Counted;
 use crate::gate::{Clock, Gate};
-use crate::half::{OutHalf, Start};
+use crate::half::{Acted, OutHalf, Start};
 use crate::resting::read_at_rest;
 use crate::shared::Shared;
 use crate::slot::Owner;
 use crate::transcript::Transcript;
 use jsp_drive::{Ended, Line, LineInput, Next};
-use jsp_kept::{AskSeat, Backlog};
+use jsp_kept::{AskSeat, InParts};
 use jsp_model::Why;
 use jsp_reply::Refusal;
 use jsp_wire::{Ask, Scratch};
@@ -114,7 +115,7 @@ fn read_piece<R: Read>(
     }
 }
 
-impl<H: Backlog, A: Ledger, O: Ledger, G: Gate, C: Clock, T: Wait + time::Clock> Shared<
+impl<H: InParts, A: Ledger, O: Ledger, G: Gate, C: Clock, T: Wait + time::Clock> Shared<
     '_,
     H,
     A,
@@ -123,6 +124,39 @@ impl<H: Backlog, A: Ledger, O: Ledger, G: Gate, C: Clock, T: Wait + time::Clock>
     C,
     T,
 > {
+    // An act of the line, behind what is to be made before it, in parts: others go between.
+    fn act_in_parts<W: Write, S: Start>(
+        &self,
+        half: &Mutex<OutHalf<O, W, S>>,
+        seat: &mut AskSeat<A>,
+        course: &mut Course<'_>,
+        given: LineInput,
+    ) -> Acted
+        requires { IsTrue (is_line_input given) }
+        ensures { Asks seat.old seat.new }
+    {
+        let time = self.clock.now();
+        let mut input = given.of_session(seat.session());
+        for _ in self.rt.forever() {
+            let acted = half
+                .lock(self.rt)
+                .act(self.rt, self.floor, seat, time, course.bytes, input);
+            course.bytes = 0;
+            match acted {
+                Ok(acted) => {
+                    self.cut(acted.shut);
+                    return acted;
+                }
+                Err(not_yet) => {
+                    self.cut(not_yet.shut);
+                    input = not_yet.input;
+                }
+            }
+            self.floor.give_way(self.rt);
+        }
+        unreachable!()
+    }
+
     // One act of the line. `None` where the line goes on.
     fn act_one<W: Write, S: Start>(
         &self,
@@ -139,12 +173,7 @@ impl<H: Backlog, A: Ledger, O: Ledger, G: Gate, C: Clock, T: Wait + time::Clock>
         let closing = is_closing(&given);
         self.gate.before(seat.session(), before.saturating_add(1));
         course.requests.fetch_add(1, Ordering::Relaxed);
-        let time = self.clock.now();
-        let acted = half
-            .lock(self.rt)
-            .act(self.rt, self.floor, seat, time, course.bytes, given);
-        course.bytes = 0;
-        self.cut(acted.shut);
+        let acted = self.act_in_parts(half, seat, course, given);
         let mut why = acted.why();
         if why.is_none() && acted.is_voting {
             why = self.take_turns(half, seat.session()).err();

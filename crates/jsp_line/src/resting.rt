@@ -11,8 +11,8 @@ use std::io::Read;
 use std::sync::atomic::{AtomicBool, Ordering};
 use std::{io, mem};
 
-/// One read. Meanwhile what the line keeps of earlier ones stands in its slot, if it has one, and is
-/// gone afterwards where that was cleared. Once an era is sealed none is kept.
+/// One read. Meanwhile what the line keeps of earlier ones stands in its slot, if it has one, and
+/// is gone afterwards where that was cleared. Once an era is sealed none is kept.
 pub(crate) fn read_at_rest<R: Read>(
     reader: &mut Counted<R>,
     transcript: &mut Transcript,

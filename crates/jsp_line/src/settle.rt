@@ -1,18 +1,20 @@
-//! The turns of transactions that vote: by the worker that settles, and by the thread whose act began a vote.
+//! The turns of transactions that vote: by the worker that settles, and by the thread whose act
+//! began a vote.
 use crate::gate::{Clock, Gate};
 use crate::half::{OutHalf, Start};
 use crate::shared::Shared;
-use jsp_kept::{Backlog, MOST_OLD};
+use jsp_kept::{InParts, MOST_OLD};
 use jsp_model::{Settled, Why};
 use std::io::Write;
 use std::sync::ledger::Ledger;
 use std::sync::{Mutex, Wait};
 use std::time;
 
-/// How many turns a line takes at once: those of a transaction that joined 64 spaces, and of another one.
+/// How many turns a line takes at once: those of a transaction that joined 64 spaces, and of
+/// another one.
 const TURNS: u32 = 130;
 
-impl<H: Backlog, A: Ledger, O: Ledger, G: Gate, C: Clock, T: Wait + time::Clock> Shared<
+impl<H: InParts, A: Ledger, O: Ledger, G: Gate, C: Clock, T: Wait + time::Clock> Shared<
     '_,
     H,
     A,
@@ -21,9 +23,9 @@ impl<H: Backlog, A: Ledger, O: Ledger, G: Gate, C: Clock, T: Wait + time::Clock>
     C,
     T,
 > {
-    /// Settles in turns until all lines have ended and nothing is to settle. While lines live, a turn
-    /// that finds no memory is taken again. Meanwhile it counts where that is wanted, and tells the
-    /// lines of the first seal.
+    /// Settles in turns until all lines have ended and nothing is to settle. While lines live, a
+    /// turn that finds no memory is taken again. Meanwhile it counts where that is wanted, and
+    /// tells the lines of the first seal.
     pub fn settle_worker(&self) -> Option<Why> {
         let mut old = Vec::new(self.alloc);
         for _ in self.rt.forever() {
@@ -35,9 +37,10 @@ impl<H: Backlog, A: Ledger, O: Ledger, G: Gate, C: Clock, T: Wait + time::Clock>
             old.clear();
             self.cut(turned.shut);
             match turned.settled {
-                Ok(Settled::Idle) if turned.ended => break,
-                Ok(Settled::Idle) => self.floor.rest(self.rt, false),
-                Ok(_) => {}
+                Ok(Some(Settled::Idle)) if turned.ended => break,
+                Ok(Some(Settled::Idle)) => self.floor.rest(self.rt, false),
+                Ok(Some(_)) => {}
+                Ok(None) => self.floor.give_way(self.rt),
                 Err(stopped) if turned.ended || stopped.why != Why::NoMemory => {
                     return Some(stopped.why);
                 }
@@ -56,9 +59,9 @@ impl<H: Backlog, A: Ledger, O: Ledger, G: Gate, C: Clock, T: Wait + time::Clock>
         }
     }
 
-    /// Takes the turns of transactions that vote, each in a hold of its own, until none does, and writes to the line of
-    /// the session what they say to it. What is left after many turns, or where one is stopped, is the settling
-    /// worker's.
+    /// Takes the turns of transactions that vote, each in a hold of its own, until none does, and
+    /// writes to the line of the session what they say to it. What is left after many turns, or
+    /// where one is stopped, is the settling worker's.
     pub(crate) fn take_turns<W: Write, S: Start>(
         &self,
         half: &Mutex<OutHalf<O, W, S>>,
@@ -70,8 +73,10 @@ impl<H: Backlog, A: Ledger, O: Ledger, G: Gate, C: Clock, T: Wait + time::Clock>
                 .floor
                 .settle(self.rt, self.clock.now(), Some(session), &mut none);
             self.cut(turned.shut);
-            if turned.settled.is_err() {
-                break;
+            match turned.settled {
+                Ok(Some(_)) => {}
+                Ok(None) => self.floor.give_way(self.rt),
+                Err(_) => break,
             }
             if !turned.is_voting {
                 return self.drain(half, session);

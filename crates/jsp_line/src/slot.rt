@@ -1,5 +1,5 @@
-//! Where a line puts the bytes that it has read while it waits for more, so that they can be dropped
-//! meanwhile.
+//! Where a line puts the bytes that it has read while it waits for more, so that they can be
+//! dropped meanwhile.
 ghost use Rattle.std.specs.Prelude.{◌≡◌, IfOk, IfErr, IfSome, OnOk};
 ghost use Rattle.crossbeam_queue.specs.Passes.{ruled_capacity, IsPassOf};
 

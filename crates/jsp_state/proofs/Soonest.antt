@@ -12,7 +12,7 @@ use Rattle.jsp_model.specs.declared.state.Registration.{Registration}
 use Rattle.jsp_model.specs.declared.state.Blocked.{Blocked}
 use Rattle.jsp_model.specs.declared.state.MatchSet.{MatchSet}
 use Rattle.jsp_model.specs.Lookup.{is_voting}
-use Rattle.jsp_model.specs.Due.{due}
+use Rattle.jsp_model.specs.Due.{items}
 use Rattle.jsp_lease.specs.Tournament.{earlier as soonest}
 use Rattle.jsp_sight.specs.Rows.{row_end, earlier}
 use Rattle.jsp_model.specs.declared.state.Commit.{Commit}
@@ -30,12 +30,10 @@ over_both : (time : ℕ) (xs ys : List Item) (first : Option Item) → first_wit
 over_both time xs ys first = ap (λ w. first_with w first) (filter-append (λ (i : Item). nat_le i.end time) xs ys) ∙ with_both (over_by time xs) (over_by time ys) first
 
 -- the kinds one after another
-pub due_is : (st : State) (s b t r e : Option Item) → s ≡ first_item (over_by st.time (map set_end st.sets)) → b ≡ soonest (first_item (over_by st.time (map blocked_end st.blocked))) s
-    → t ≡ soonest (first_item (over_by st.time (map transaction_end (filter (λ (t : Transaction). not (is_voting st t.number)) st.transactions)))) b
-    → r ≡ soonest (first_item (over_by st.time (map registration_end st.registrations))) t → e ≡ soonest (first_item (over_by st.time (map row_end st.rows))) r → e ≡ due st
-unfolding due
-due_is st s b t r e is_s is_b is_t is_r is_e =
-    let time = st.time in
+pub first_is : (st : State) (time : ℕ) (s b t r e : Option Item) → s ≡ first_item (over_by time (map set_end st.sets)) → b ≡ soonest (first_item (over_by time (map blocked_end st.blocked))) s
+    → t ≡ soonest (first_item (over_by time (map transaction_end (filter (λ (t : Transaction). not (is_voting st t.number)) st.transactions)))) b
+    → r ≡ soonest (first_item (over_by time (map registration_end st.registrations))) t → e ≡ soonest (first_item (over_by time (map row_end st.rows))) r → e ≡ first_item (over_by time (items st))
+first_is st time s b t r e is_s is_b is_t is_r is_e =
     let active = filter (λ (t : Transaction). not (is_voting st t.number)) st.transactions in
     let rows = map row_end st.rows in
     let registrations = map registration_end st.registrations in
@@ -55,13 +53,13 @@ due_is st s b t r e is_s is_b is_t is_r is_e =
     ∙ over_both time rows registrations (first_with (over_by time transactions) (first_with (over_by time blocked) (first_with (over_by time sets) None))))
 
 -- the same, of fields that were read
-pub due_is_seen : (st : State) (time : ℕ) (sets : List MatchSet) (blocked : List Blocked) (registrations : List Registration) (rows : List Row) (s b t r e : Option Item)
-    → time ≡ st.time → sets ≡ st.sets → blocked ≡ st.blocked → registrations ≡ st.registrations → rows ≡ st.rows
+pub first_is_seen : (st : State) (time : ℕ) (sets : List MatchSet) (blocked : List Blocked) (registrations : List Registration) (rows : List Row) (s b t r e : Option Item)
+    → sets ≡ st.sets → blocked ≡ st.blocked → registrations ≡ st.registrations → rows ≡ st.rows
     → s ≡ first_item (over_by time (map set_end sets)) → b ≡ soonest (first_item (over_by time (map blocked_end blocked))) s
     → t ≡ soonest (first_item (over_by time (map transaction_end (filter (λ (t : Transaction). not (is_voting st t.number)) st.transactions)))) b
-    → r ≡ soonest (first_item (over_by time (map registration_end registrations))) t → e ≡ soonest (first_item (over_by time (map row_end rows))) r → e ≡ due st
-due_is_seen st time sets blocked registrations rows s b t r e to es eb er eo is_s is_b is_t is_r is_e =
-    due_is st s b t r e (rw (to, es) at is_s) (rw (to, eb) at is_b) (rw to at is_t) (rw (to, er) at is_r) (rw (to, eo) at is_e)
+    → r ≡ soonest (first_item (over_by time (map registration_end registrations))) t → e ≡ soonest (first_item (over_by time (map row_end rows))) r → e ≡ first_item (over_by time (items st))
+first_is_seen st time sets blocked registrations rows s b t r e es eb er eo is_s is_b is_t is_r is_e =
+    first_is st time s b t r e (rw es at is_s) (rw eb at is_b) is_t (rw er at is_r) (rw eo at is_e)
 
 -- ---- transactions that don't vote
 

@@ -3,7 +3,7 @@ ghost use Rattle.std.specs.Prelude.{◌≡◌, map, filter, not};
 ghost use Rattle.jsp_lease.specs.Due.{first_item, over_by};
 ghost use Rattle.jsp_lease.specs.Tournament.{earlier as soonest_of};
 ghost use Rattle.jsp_model.specs.Lookup.{is_voting as votes};
-ghost use Rattle.jsp_model.specs.Due.{due as first_due};
+ghost use Rattle.jsp_model.specs.Due.{due as first_due, items};
 ghost use Rattle.jsp_txn.specs.Ending.{transaction_end};
 
 use crate::transactions::is_voting;
@@ -13,11 +13,16 @@ use jsp_sight::earlier;
 use jsp_table::Test;
 
 /// The least due item, by end, rank and number: its end has come (the order is this profile's own).
-/// Each kind has its first at hand.
 pub fn due(state: &Core) -> Option<Item>
     ensures { result ≡ first_due state.now }
 {
-    let time = state.time;
+    first_end(state, state.time)
+}
+
+/// The least of the items whose end comes by a time. Each kind has its first at hand.
+pub fn first_end(state: &Core, time: u64) -> Option<Item>
+    ensures { result ≡ first_item (over_by time (items state.now)) }
+{
     let first = soonest(state.blocked.due(time), state.sets.due(time));
     let first = soonest(first_active(state, time), first);
     let first = soonest(state.registrations.due(time), first);

@@ -25,7 +25,7 @@ mod withdrawing;
 
 pub use access::space_refusal;
 pub use choices::{choose, is_choice};
-pub use ends::due;
+pub use ends::{due, first_end};
 pub use entries::{entries_refusal, entry_of, template_of, templates_of, templates_refusal};
 pub use jsp_sight::{contains, is_caller, is_if, is_readable, is_take};
 pub use numbers::{caller_of, is_used_up, named};

@@ -1,11 +1,9 @@
-use Rattle.std.proofs.Common.{ap}
+use Rattle.std.proofs.Common.{◌∙◌, ap}
+use Rattle.jsp_lease.specs.Due.{first_item, over_by}
 use Rattle.jsp_model.specs.declared.state.State.{State}
-use Rattle.jsp_state.proofs.Soonest.{due_is_seen}
+use Rattle.jsp_model.specs.Due.{due, items}
 use Rattle.jsp_state.proofs.ends.due.Goals as goal
 
 pub returns : goal.returns
-returns c =
-    due_is_seen c.args.state.now _ _ _ _ _ _ _ _ _ _ (ap (λ (st : State). st.time) c.state.view_is) (ap (λ (st : State). st.sets) c.state.view_is) (ap (λ (st : State). st.blocked) c.state.view_is) (ap (λ (st : State). st.registrations) c.state.view_is) (ap (λ (st : State). st.rows) c.state.view_is)
-    c.due-2.ensures (rw c.due.ensures at c.soonest-first.ensures) (rw c.first_active.ensures at c.soonest-first-2.ensures)
-    (rw c.due-3.ensures at c.soonest-first-3.ensures)
-    (rw c.due-4.ensures at c.soonest.ensures)
+unfolding due
+returns c = c.first_end.ensures ∙ ap (λ (st : State). first_item (over_by st.time (items c.args.state.now))) c.state.view_is

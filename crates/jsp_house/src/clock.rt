@@ -1,0 +1,38 @@
+//! How far the clock goes on at once.
+ghost use Rattle.std.specs.Prelude.{◌≡◌, ◌≤◌};
+
+use crate::applying::apply_in;
+use crate::unquiet::first_unquiet_of;
+use jsp_audit::{first_end, touches};
+use jsp_core::LiveImage;
+use jsp_model::{Item, Step};
+use std::alloc::Global;
+use std::cmp::min;
+
+/// The time of the next end, or the one before it where a space isn't quiet that this touches: it couldn't end there. The
+/// reading, where nothing ends by then.
+pub(crate) fn next_time(alloc: Global, image: &mut LiveImage, reading: u64) -> u64
+    ensures within { result ≤ reading }
+    ensures same { image.new ≡ image.old }
+{
+    let Some(item) = first_end(image.state(), reading) else {
+        return reading;
+    };
+    let time = if may_end(alloc, image, item) {
+        item.end
+    } else {
+        item.end.saturating_sub(1)
+    };
+    min(time, reading)
+}
+
+/// Whether each space is quiet that the item's end touches. Without memory to tell, yes.
+fn may_end(alloc: Global, image: &mut LiveImage, item: Item) -> bool
+    ensures { image.new ≡ image.old }
+{
+    let Ok(spaces) = touches(alloc, image, &Step::Due { item }) else {
+        return true;
+    };
+    apply_in(image, spaces.as_slice());
+    first_unquiet_of(image, spaces.as_slice()).is_none()
+}
