@@ -19,7 +19,7 @@ use jsp_table::{Hints, Numbers};
 use jsp_types::{Entry, Items, Text, Value};
 use std::alloc::Global;
 
-/// How many rows are learned at a call.
+/// How many rows are learned at a call at least.
 const PART: usize = 64;
 
 /// The numbers of a space's rows by the key of the values that they have in fields of these names.
@@ -138,12 +138,12 @@ impl Shape {
         self.hints.remove(key, row.number);
     }
 
-    /// Learns more of the rows, in their order. Where memory is refused it begins anew.
-    pub(crate) fn learn(&mut self, alloc: Global, seed: u64, rows: &Rows, call: u64)
+    /// Learns so many of the rows more, in their order. Where memory is refused it begins anew.
+    pub(crate) fn learn(&mut self, alloc: Global, seed: u64, rows: &Rows, count: usize, call: u64)
         ensures { IsShaped seed self.old rows.now → IsShaped seed self.new rows.now }
     {
         self.asked = call;
-        'rows: for _count in 0..PART {
+        'rows: for _count in 0..count.max(PART) {
             if self.is_whole {
                 return;
             }

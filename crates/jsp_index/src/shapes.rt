@@ -75,9 +75,17 @@ impl Shapes {
         shortest(self.list.as_slice(), &self.none, seed, space, like)
     }
 
-    /// Learns more of the shape of a template's values, or begins it, in the stead of the one that
-    /// wasn't asked for the longest where there are as many as there may be. Where memory is refused
-    /// that isn't done.
+    /// Whether the shape of a template's values has learned all rows of the space.
+    pub(crate) fn has_learned(&self, space: u64, fields: &[(Text, Value)]) -> bool {
+        let shapes = self.list.as_slice();
+        shapes
+            .iter()
+            .any(|shape| shape.is_of(space, fields) && shape.is_whole)
+    }
+
+    /// Learns so many rows more of the shape of a template's values, or begins it, in the stead of the
+    /// one that wasn't asked for the longest where there are as many as there may be. Where memory is
+    /// refused that isn't done.
     pub(crate) fn learn(
         &mut self,
         alloc: Global,
@@ -85,23 +93,32 @@ impl Shapes {
         rows: &Rows,
         space: u64,
         fields: &[(Text, Value)],
+        count: usize,
     )
         ensures { AreShaped seed self.old.list rows.now → AreShaped seed self.new.list rows.now }
     {
         self.calls = self.calls.saturating_add(1);
         let shapes = &mut self.list.items;
         match place_of(shapes.as_slice(), space, fields) {
-            Some(place) => learn_at(alloc, seed, shapes, rows, place, self.calls),
+            Some(place) => learn_at(alloc, seed, shapes, rows, place, count, self.calls),
             None => begin(alloc, shapes, space, fields, self.calls),
         }
     }
 }
 
-fn learn_at(alloc: Global, seed: u64, shapes: &mut Vec<Shape>, rows: &Rows, place: usize, call: u64)
+fn learn_at(
+    alloc: Global,
+    seed: u64,
+    shapes: &mut Vec<Shape>,
+    rows: &Rows,
+    place: usize,
+    count: usize,
+    call: u64,
+)
     ensures { AreShaped seed shapes.old.items rows.now → AreShaped seed shapes.new.items rows.now }
 {
     if place < shapes.len() {
-        shapes[place].learn(alloc, seed, rows, call);
+        shapes[place].learn(alloc, seed, rows, count, call);
     }
 }
 
