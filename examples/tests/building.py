@@ -14,7 +14,7 @@ import tempfile
 from pathlib import Path
 
 ROOT = Path(__file__).parents[2]
-NOT_ASKED = {"jsp_bench", "jsp_retry", "jsp_runs", "jsp_tests"}  # which the program doesn't stand on
+NOT_ASKED = {"jsp_bench", "jsp_house_tests", "jsp_retry", "jsp_runs", "jsp_tests"}  # which the program doesn't stand on
 NOTES = """#!/bin/sh
 name=$(basename "$PWD")
 echo "$1 $name" >>"$NOTES"

@@ -234,6 +234,26 @@ def three_never_read_their_events(address):
     silent_listeners(address, 3)
 
 
+def is_granted_large_entries(address):
+    """It waits for an entry of 8,000 bytes, 64 times, and one write brings it all of them: more than may wait for it."""
+    with Client(*address) as reader, Client(*address) as writer:
+        for client in (reader, writer):
+            client.socket.settimeout(SECONDS)
+        writer.declare("Large", text="text")
+        keys = {"space": "a", "template": entry("Large"), "timeout": 10**9, "txn": None}
+        reads = [reader.send("read", **keys) for _ in range(64)]
+        reader.spaces()
+        writer.write("a", entry("Large", text="x" * 8_000), lease=LONGEST)
+        try:
+            for read in reads:
+                reader.wait(read)
+        except ConnectionError:
+            pass
+        else:
+            raise AssertionError("its connection goes on")
+    is_served(address)
+
+
 CASES = {
     # How many connections there are, how many descriptors and kilobytes of memory the server is to have at most, and its
     # options.
@@ -243,6 +263,7 @@ CASES = {
     never_reads: (2, 1024, "unlimited", ""),
     never_reads_its_events: (3, 1024, "unlimited", "--backlog 5000"),
     three_never_read_their_events: (5, 1024, "unlimited", "--backlog 5000"),
+    is_granted_large_entries: (3, 1024, "unlimited", "--backlog-bytes 300000"),
     three_hundred_at_once: (301, 1024, "unlimited", ""),
     more_than_the_descriptors: (61, 40, "unlimited", ""),
     idles: (4, 1024, "unlimited", "--idle 1"),

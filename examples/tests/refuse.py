@@ -85,6 +85,19 @@ def scripts(refusing):
             assert ran in wanted, (name, growth, ran)
 
 
+def audits(refusing):
+    """With --audit a script is replayed before anything is printed, and prints the same. That takes memory."""
+    for name in ["events", "listing", "workers"]:
+        text = (TESTS.parent / f"{name}.script").read_bytes()
+        printed = (TESTS.parent / f"{name}.expected").read_bytes()
+        growths = []
+        for words in ([], ["--audit"]):
+            refusing.refuse(GROWTHS, 0)
+            assert refusing.run(text, "script", *words, "a", "b") == (printed, b"", 0), name
+            growths.append(refusing.count(GROWTHS))
+        assert growths[1] > growths[0], (name, growths)
+
+
 def is_cut(work):
     """Does the work, as far as its line goes. A request that brings neither an answer nor an end of the line fails."""
     try:
@@ -384,7 +397,7 @@ def retried(refusing):
         assert unmade > runs // 4 and made > 0, (house, unmade, made, runs)
 
 
-CASES = [scripts, served, famine, ended, unmet, threads, lonely, accepts, sends, shell, retried]
+CASES = [scripts, audits, served, famine, ended, unmet, threads, lonely, accepts, sends, shell, retried]
 CASES = {case.__name__: case for case in CASES}
 
 if __name__ == "__main__":

@@ -117,6 +117,51 @@ def one_who_never_reads_delays_nobody(address):
                 assert told.event(SECONDS).seq == number
 
 
+def others_go_between(address):
+    """One write answers 6,400 reads, and a commit is told 64,000 times. Whoever asks for something of another space waits for
+    a small part of that at once."""
+    with ExitStack() as stack:
+        clients = [stack.enter_context(connect(address)) for _ in range(100)]
+        writer, other = stack.enter_context(connect(address)), stack.enter_context(connect(address))
+        writer.declare("Job", k="int")
+        other.write("b", entry("Job", k=0), lease=LONGEST)
+
+        def longest_part(client, request):
+            """How much of the time until a client's request is answered the other one waited at the longest."""
+            client.socket.settimeout(0.001)
+            began, waits = time.monotonic(), []
+            while True:
+                asked = time.monotonic()
+                assert other.read("b", entry("Job", k=0)) is not None
+                waits.append(time.monotonic() - asked)
+                try:
+                    client.wait(request)
+                except TimeoutError:
+                    continue
+                client.socket.settimeout(SECONDS)
+                return max(waits) / (time.monotonic() - began)
+
+        parts = []
+        for key in range(3):
+            keys = {"space": "a", "template": entry("Job", k=key), "timeout": 10**9, "txn": None}
+            for client in clients:
+                reads = [client.send("read", **keys) for _ in range(64)]
+                client.spaces()
+            writer.write("a", entry("Job", k=key), lease=LONGEST)
+            parts.append(longest_part(clients[-1], reads[-1]))
+        assert min(parts) < 0.25, parts
+
+        for client in clients:
+            for _ in range(10):
+                client.notify("a", entry("Job"), lease=LONGEST)
+        parts = []
+        for _ in range(3):
+            with writer.transaction(lease=LONGEST) as txn:
+                writer.write_all("a", [entry("Job", k=key) for key in range(64)], lease=LONGEST, txn=txn)
+            parts.append(longest_part(writer, writer.send("reset", space="a")))
+        assert min(parts) < 0.25, parts
+
+
 CASES = {
     a_wait_ends_by_the_clock_alone: 1,
     each_line_is_woken: 41,
@@ -124,6 +169,7 @@ CASES = {
     events_go_out_before_the_end: 1,
     one_who_reads_late: 2,
     one_who_never_reads_delays_nobody: 3,
+    others_go_between: 102,
 }
 
 if __name__ == "__main__":

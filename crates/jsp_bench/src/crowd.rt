@@ -1,4 +1,5 @@
-//! A space that is awkward to search: what is common is looked for, much of it is held, and many wait in vain.
+//! A space that is awkward to search: what is common is looked for, much of it is held, and many
+//! wait in vain.
 use crate::course::{Course, HOUR};
 use crate::dice::Dice;
 use std::alloc::{AllocError, Global};
@@ -28,10 +29,11 @@ struct Crowd {
     fresh: u64,
 }
 
-/// A course with so many turns over entries of few colours and sizes, in classes below one another. A transaction holds
-/// the first entries, and requests wait for what hardly ever comes. In a turn an entry of a class, a colour and a size
-/// is looked for, and a new one is written; now and then a transaction over two spaces is aborted, a session breaks off
-/// with what it waits for, a space is reset, and requests are refused.
+/// A course with so many turns over entries of few colours and sizes, in classes below one another.
+/// A transaction holds the first entries, and requests wait for what hardly ever comes. In a turn
+/// an entry of a class, a colour and a size is looked for, and a new one is written; now and then a
+/// transaction over two spaces is aborted, a session breaks off with what it waits for, a space is
+/// reset, and requests are refused.
 pub(crate) fn crowd_script(alloc: Global, turns: u64, seed: u64) -> Result<String, AllocError> {
     let mut crowd = Crowd {
         course: Course::new(alloc),

@@ -8,8 +8,8 @@ const STANDING: u32 = 20_000;
 
 const OWNERS: u32 = 400;
 
-/// A course of one session with so many searches among many entries: reads by key, an entry taken and written back with
-/// another value, keys that nobody has, and any entry of an owner.
+/// A course of one session with so many searches among many entries: reads by key, an entry taken
+/// and written back with another value, keys that nobody has, and any entry of an owner.
 pub(crate) fn lookups_script(
     alloc: Global,
     searches: u64,

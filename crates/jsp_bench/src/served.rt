@@ -16,6 +16,7 @@ const BOUNDS: Bounds = Bounds {
     era: 131_072,
     era_bytes: 1 << 26,
     backlog: 65_536,
+    backlog_bytes: 1 << 24,
 };
 
 /// What stands before the payload of a request in the script of a course with one session.
@@ -109,6 +110,10 @@ impl Hangup for Connected {
     fn requests(&self) -> &AtomicU64 {
         &self.requests
     }
+
+    fn silent(&self) -> u64 {
+        0
+    }
 }
 
 impl<'a> Door<Incoming<'a>, Outgoing<'a>, Connected> for OneLine<'a> {
@@ -151,8 +156,8 @@ impl Clock for Still {
     }
 }
 
-/// Serves the requests of a script with one session, and answers the digest of the bytes that it was sent, or none where
-/// the server ended by a fault.
+/// Serves the requests of a script with one session, and answers the digest of the bytes that it
+/// was sent, or none where the server ended by a fault.
 pub(crate) fn served<T: Threads + Wait + time::Clock + Sync>(
     rt: &T,
     alloc: Global,

@@ -21,8 +21,9 @@ struct Hub {
     first_watch: u64,
 }
 
-/// A course with so many entries written, each for two seconds. Sessions are told of those whose topic and level they
-/// watch, list them by pages, look for one of a topic and level, renew what they watch by, and cancel entries.
+/// A course with so many entries written, each for two seconds. Sessions are told of those whose
+/// topic and level they watch, list them by pages, look for one of a topic and level, renew what
+/// they watch by, and cancel entries.
 pub(crate) fn watchers_script(
     alloc: Global,
     entries: u64,

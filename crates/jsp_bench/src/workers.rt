@@ -19,10 +19,10 @@ struct Pool {
     workers: Vec<u64>,
 }
 
-/// A course in which so many jobs are done. A master writes jobs of several kinds, which stand in the space `a` for a
-/// while. A worker takes one of its kind under a transaction, writes its result into `b`, and commits; some give up.
-/// For urgent jobs workers wait. The master takes each result by its job. Each worker has an entry that says that it is
-/// there, and renews its lease.
+/// A course in which so many jobs are done. A master writes jobs of several kinds, which stand in
+/// the space `a` for a while. A worker takes one of its kind under a transaction, writes its result
+/// into `b`, and commits; some give up. For urgent jobs workers wait. The master takes each result
+/// by its job. Each worker has an entry that says that it is there, and renews its lease.
 pub(crate) fn workers_script(alloc: Global, jobs: u64, seed: u64) -> Result<String, AllocError> {
     let mut course = Course::new(alloc);
     let master = course.open()?;
@@ -60,7 +60,8 @@ pub(crate) fn workers_script(alloc: Global, jobs: u64, seed: u64) -> Result<Stri
 }
 
 impl Pool {
-    /// The workers come, and each writes that it is there. Answers the number of the first such entry.
+    /// The workers come, and each writes that it is there. Answers the number of the first such
+    /// entry.
     fn greet(&mut self) -> Result<u64, AllocError> {
         for worker in 0..WORKERS {
             let session = self.course.open()?;
@@ -115,8 +116,8 @@ impl Pool {
         Ok(())
     }
 
-    /// A worker takes the oldest job of a kind under a transaction and writes a result, and the master takes that. Once
-    /// in sixteen times the worker gives up.
+    /// A worker takes the oldest job of a kind under a transaction and writes a result, and the
+    /// master takes that. Once in sixteen times the worker gives up.
     fn take_and_tell(&mut self, job: u64, worker: u64, kind: u32) -> Result<(), AllocError> {
         let txn = self.course.begin(worker, 10_000)?;
         self.course.ask(worker)?;

@@ -1,5 +1,7 @@
 //! A house that can be called beside what it owes.
-ghost use Rattle.std.specs.Prelude.{◌≡◌, ◌≤◌, ◌-◌, [], false, IfErr, IsTrue, OnOk, vec_len, vec_capacity};
+ghost use Rattle.std.specs.Prelude.{◌≡◌, ◌==◌, ◌||◌, ◌≤◌, ◌-◌, [], false, filter, length, nat_le, nat_lt, IfErr, IsTrue, OnOk, vec_len, vec_capacity};
+ghost use Rattle.std.specs.List.{list_any};
+ghost use Rattle.jsp_model.specs.Outboxes.{outbox_of};
 ghost use Rattle.jsp_model.specs.House.{is_input, IsReady, accepts, OpensNone, KeepsRoom, KeepsBound, MayStop, WasFull};
 ghost use Rattle.jsp_beside.specs.Beside.{ActsBeside, GoesBeside};
 
@@ -37,4 +39,11 @@ pub trait InParts: Backlog {
         ensures view { Self.view self.new ≡ Self.view self.old }
         ensures debt { Self.debt self.new ≡ Self.debt self.old }
         ensures bound { Self.bound_of self.new ≡ Self.bound_of self.old };
+
+    /// Whether a session has a request that waits, a registration, or an answer that it wasn't handed.
+    fn awaits(&self, session: u64) -> bool
+        ensures { result ≡ ((nat_le 1 (length (filter (λ b. b.session == session) (Self.view self.now).blocked)) || list_any (λ r. r.session == session) (Self.view self.now).registrations) || nat_lt 0 (length (outbox_of (Self.view self.now) session))) };
+
+    /// About how many bytes of memory the answers take that wait for a session. No clause says it.
+    fn weight(&self, session: u64) -> u64;
 }

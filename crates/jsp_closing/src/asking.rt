@@ -33,8 +33,8 @@ fn feed_line(alloc: Global, bytes: &[u8]) -> Result<Line, NoMemory>
     Ok(line)
 }
 
-/// The steps, with what the lines give in the place of each request and fault of a session whose line
-/// is whole. Those of the others stay.
+/// The steps, with what the lines give in the place of each request and fault of a session whose
+/// line is whole. Those of the others stay.
 pub(crate) fn ask_again(
     alloc: Global,
     reports: &[LineReport],

@@ -9,30 +9,30 @@ use thiserror::Error;
 #[derive(Drop)]
 pub struct LineReport {
     pub session: u64,
-    /// No where its bytes weren't all kept for want of memory, or where a request or an answer of it
-    /// found no memory. Nothing is claimed of its bytes then, nor of how it ended.
+    /// No where its bytes weren't all kept for want of memory, or where a request or an answer of
+    /// it found no memory. Nothing is claimed of its bytes then, nor of how it ended.
     pub is_whole: bool,
     pub ended: Ended,
     pub read: Vec<u8>,
     pub written: Vec<u8>,
     pub read_failed: bool,
     pub write_failed: bool,
-    /// Whether the house itself shut its session while that was open, as whoever kept it noted. That a line shut its
-    /// own session isn't told here.
+    /// Whether the house itself shut its session while that was open, as whoever kept it noted.
+    /// That a line shut its own session isn't told here.
     pub shut_by_house: bool,
 }
 
 /// What a run answers.
 #[derive(Drop)]
 pub enum Closed {
-    /// No era was sealed: the steps are the whole history, from the empty state. The lines are those
-    /// of its sessions, by their numbers. Those that aren't whole were compared with nothing.
+    /// No era was sealed: the steps are the whole history, from the empty state. The lines are
+    /// those of its sessions, by their numbers. Those that aren't whole were compared with nothing.
     Whole {
         steps: Vec<Step>,
         lines: Vec<LineReport>,
     },
-    /// The steps of the last era. Those of the earlier ones are gone: with them they are one run from the
-    /// empty state, in which all laws hold and after which all is at rest.
+    /// The steps of the last era. Those of the earlier ones are gone: with them they are one run
+    /// from the empty state, in which all laws hold and after which all is at rest.
     Sealed {
         steps: Vec<Step>,
     },

@@ -16,7 +16,8 @@ use std::alloc::Global;
 
 /// The history that has ended, which its lines show to be right where no era was sealed. They may
 /// come in any order, and there is one for each session. What those ask that aren't whole is taken
-/// as the history has it. The seed is for the replay, and whoever wrote to the lines shouldn't know it.
+/// as the history has it. The seed is for the replay, and whoever wrote to the lines shouldn't know
+/// it.
 ///
 /// The answer is `Audit` where they don't, and `NoMemory` where a growth was refused.
 pub fn close(
@@ -78,7 +79,8 @@ pub(crate) fn close_whole(
     })
 }
 
-// Replays the steps, and compares them with the lines. Those that are whole have given what is asked.
+// Replays the steps, and compares them with the lines. Those that are whole have given what is
+// asked.
 fn check_whole(
     alloc: Global,
     config: &Config,

@@ -17,8 +17,8 @@ use jsp_model::Step;
 use jsp_types::NoMemory;
 use std::alloc::Global;
 
-/// Compares what is left on the lines that are whole with the state in which the steps end. They have
-/// given what is asked in the steps.
+/// Compares what is left on the lines that are whole with the state in which the steps end. They
+/// have given what is asked in the steps.
 pub(crate) fn check_lines(
     alloc: Global,
     state: &Core,

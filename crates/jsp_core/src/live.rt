@@ -95,8 +95,8 @@ impl LiveImage {
         self.state.rows.has_pending() || self.state.registrations.has_news()
     }
 
-    /// Registrations are told what commits tell them, as far as there is memory for it, and the space
-    /// applies the decisions that it hasn't applied.
+    /// The space applies the decisions that it hasn't applied, and where none of its registrations is owed
+    /// an event, they are told some of what commits tell them, as far as there is memory for it.
     pub fn apply_in(&mut self, space: u64)
         ensures { self.new ≡ self.old }
     {
@@ -110,8 +110,7 @@ impl LiveImage {
         apply_due(&mut self.state);
     }
 
-    /// Registrations are told what commits tell them, as far as there is memory for it, and all spaces
-    /// apply theirs.
+    /// All spaces do so.
     pub fn apply_all(&mut self)
         ensures { self.new ≡ self.old }
     {
@@ -129,7 +128,7 @@ fn next_told(state: &mut Core) -> Option<u64>
 fn apply_in(state: &mut Core, space: u64)
     ensures { state.new ≡ state.old }
 {
-    hear(state);
+    hear_in(state, space);
     let rows = &mut state.rows;
     rows.apply_in(space);
 }
@@ -145,14 +144,17 @@ fn apply_due(state: &mut Core)
 fn apply_all(state: &mut Core)
     ensures { state.new ≡ state.old }
 {
-    hear(state);
+    let count = state.spaces.as_slice().len() as u64;
+    'spaces: for space in 0..count {
+        hear_in(state, space);
+    }
     let rows = &mut state.rows;
     rows.apply_all();
 }
 
-fn hear(state: &mut Core)
+fn hear_in(state: &mut Core, space: u64)
     ensures { state.new ≡ state.old }
 {
     let registrations = &mut state.registrations;
-    registrations.hear();
+    registrations.hear_in(space);
 }

@@ -11,6 +11,7 @@ mod blocking;
 mod declare;
 mod giving;
 mod search;
+mod storing;
 mod write;
 
 pub use asking::{

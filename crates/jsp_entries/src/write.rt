@@ -9,22 +9,20 @@ ghost use Rattle.jsp_model.specs.Limits.{are_rising};
 ghost use Rattle.jsp_model.specs.Requests.{caller_of as transaction_named};
 ghost use Rattle.jsp_model.specs.Refusals.{write_tests, rows_in as count_in};
 ghost use Rattle.jsp_model.specs.Changes.{write};
-ghost use Rattle.jsp_notify.specs.Owing.{owed};
 ghost use Rattle.jsp_transactions.specs.Writing.{new_rows as written_rows};
 ghost use Rattle.jsp_state.specs.Fitting.{AllAccepted};
 ghost use Rattle.jsp_entries.specs.Asking.{write_of};
 ghost use Rattle.jsp_entries.specs.Writing.{granting_tests, row_numbered, with_new_rows};
 ghost use Rattle.jsp_model.specs.declared.limits.TheConstants.{LAST_NUMBER, LAST_TIME, MOST_ROWS};
 
+use crate::storing::store;
 use jsp_core::Core;
 use jsp_lease::{granted, ms_of};
 use jsp_model::{MOST_ROWS, Row};
-use jsp_notify::{Heard, Registrations};
 use jsp_reply::{Refusal, Reply};
 use jsp_state::{
     caller_of, entries_refusal, entry_of, is_used_up, place_of, rows_in, space_refusal,
 };
-use jsp_store::Rows;
 use jsp_transactions::{join, leave};
 use jsp_types::{Classes, Items, NoMemory, Raw};
 use std::alloc::Global;
@@ -167,48 +165,6 @@ fn add_rows(state: &mut Core, rows: Vec<Row>, caller: Option<u64>) -> Result<(),
     store(&state.classes, stored, registrations, rows, caller)?;
     state.next_number += count;
     Ok(())
-}
-
-/// Stores the rows, and registrations are owed them.
-fn store(
-    classes: &Classes,
-    stored: &mut Rows,
-    registrations: &mut Registrations,
-    rows: Vec<Row>,
-    caller: Option<u64>,
-) -> Result<(), NoMemory>
-    ensures rows { OnOk result (stored.new ≡ stored.old ++ rows.items) }
-    ensures owed { OnOk result (registrations.new ≡ map (owed classes.now caller rows.items) registrations.old) }
-    ensures rows_stay { OnErr result (stored.new ≡ stored.old) }
-    ensures owed_stay { OnErr result (registrations.new ≡ registrations.old) }
-{
-    let mut heard = registrations.take_heard()?;
-    let is_stored = store_owed(classes, stored, &mut heard, rows, caller);
-    registrations.put_back(heard);
-    is_stored
-}
-
-/// Stores the rows beside registrations that are owed them.
-fn store_owed(
-    classes: &Classes,
-    stored: &mut Rows,
-    heard: &mut Heard,
-    mut rows: Vec<Row>,
-    caller: Option<u64>,
-) -> Result<(), NoMemory>
-    ensures rows { OnOk result (stored.new ≡ stored.old ++ rows.items) }
-    ensures owed { OnOk result (heard.new ≡ map (owed classes.now caller rows.items) heard.old) }
-    ensures rows_stay { OnErr result (stored.new ≡ stored.old) }
-    ensures owed_stay { OnErr result (heard.new ≡ heard.old) }
-{
-    heard.owe_all(classes, rows.as_slice(), caller)?;
-    match stored.append(&mut rows) {
-        Ok(()) => Ok(()),
-        Err(e) => {
-            heard.forgive_all(classes, rows.as_slice(), caller);
-            Err(e)
-        }
-    }
 }
 
 /// What a request is answered that draws one number: the lease of that number, and its time.

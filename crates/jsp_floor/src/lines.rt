@@ -23,6 +23,9 @@ const LOOKS: u32 = 40;
 
 const PAUSE: u64 = 50;
 
+/// For how many milliseconds a line that gives its place up was silent at least.
+const SILENCE: u64 = 60_000;
+
 // A line that is being served.
 #[derive(Drop)]
 struct Line<X> {
@@ -42,8 +45,8 @@ struct Progress<R: Read, W: Write, X, D: Door<R, W, X>> {
 pub(crate) struct Lines<R: Read, W: Write, X, D: Door<R, W, X>> {
     most: usize,
     progress: Mutex<Progress<R, W, X, D>>,
-    /// Signalled when none is served any more.
-    none: Condvar,
+    /// Signalled when one has ended.
+    ended: Condvar,
 }
 
 impl<R: Read + Drop, W: Write + Drop, X: Hangup + Drop, D: Door<R, W, X>> Lines<R, W, X, D> {
@@ -54,7 +57,7 @@ impl<R: Read + Drop, W: Write + Drop, X: Hangup + Drop, D: Door<R, W, X>> Lines<
                 lines: Vec::new(alloc),
                 served: Served::new(alloc),
             }),
-            none: Condvar::new(),
+            ended: Condvar::new(),
         }
     }
 
@@ -100,9 +103,7 @@ impl<R: Read + Drop, W: Write + Drop, X: Hangup + Drop, D: Door<R, W, X>> Lines<
         let mut progress = self.progress.lock(rt);
         progress.served.add_line(done, left);
         progress.lines.retain(|line| line.session != session);
-        if progress.lines.is_empty() {
-            self.none.notify_all();
-        }
+        self.ended.notify_all();
     }
 
     /// Shuts the sessions of all lines that are served, so that these end, and ends the connections
@@ -122,12 +123,46 @@ impl<R: Read + Drop, W: Write + Drop, X: Hangup + Drop, D: Door<R, W, X>> Lines<
                 return;
             }
             let (locked, _timed_out) = self
-                .none
+                .ended
                 .wait_timeout(rt, progress, Duration::from_millis(PAUSE));
             progress = locked;
         }
         for line in progress.lines.as_slice() {
             line.hangup.hang_up();
+        }
+    }
+
+    /// The session of the line that has been silent longest, for a minute at least, and that waits
+    /// for nothing.
+    pub(crate) fn most_silent<H: InParts, A: Ledger, O: Ledger, T: Wait>(
+        &self,
+        rt: &T,
+        floor: &Floor<H, A, O>,
+    ) -> Option<u64> {
+        let progress = self.progress.lock(rt);
+        let mut longest = SILENCE;
+        let mut most_silent = None;
+        for line in progress.lines.as_slice() {
+            let silent = line.hangup.silent();
+            if longest <= silent && !floor.awaits(rt, line.session) {
+                longest = silent.saturating_add(1);
+                most_silent = Some(line.session);
+            }
+        }
+        most_silent
+    }
+
+    /// Waits until one line more may be served, for two seconds at most.
+    pub(crate) fn wait_for_place<T: Wait + Clock>(&self, rt: &T) {
+        let mut progress = self.progress.lock(rt);
+        for _ in 0..LOOKS {
+            if progress.lines.len() < self.most {
+                return;
+            }
+            let (locked, _timed_out) = self
+                .ended
+                .wait_timeout(rt, progress, Duration::from_millis(PAUSE));
+            progress = locked;
         }
     }
 
@@ -163,7 +198,7 @@ impl<R: Read + Drop, W: Write + Drop, X: Hangup + Drop, D: Door<R, W, X>> Lines<
             if progress.lines.is_empty() {
                 return;
             }
-            progress = self.none.wait(rt, progress);
+            progress = self.ended.wait(rt, progress);
         }
     }
 
@@ -174,7 +209,7 @@ impl<R: Read + Drop, W: Write + Drop, X: Hangup + Drop, D: Door<R, W, X>> Lines<
             return true;
         }
         let (progress, _timed_out) = self
-            .none
+            .ended
             .wait_timeout(rt, progress, Duration::from_millis(PAUSE));
         progress.lines.is_empty()
     }
@@ -184,7 +219,7 @@ impl<R: Read + Drop, W: Write + Drop, X: Hangup + Drop, D: Door<R, W, X>> Lines<
         let Lines {
             most: _,
             progress,
-            none: _,
+            ended: _,
         } = self;
         let Progress { lines: _, served } = progress.into_inner();
         served

@@ -38,6 +38,8 @@ pub struct Bounds {
     pub era_bytes: u64,
     /// How many answers may wait for a session. One for which more wait is shut, and its line ends.
     pub backlog: u64,
+    /// About how many bytes of memory they may take.
+    pub backlog_bytes: u64,
 }
 
 // A line that has come in, and its session.
@@ -127,6 +129,19 @@ impl<
     C: Clock + Sync,
     T: Threads + Wait + time::Clock + Sync,
 > Server<'_, '_, H, A, O, R, W, X, D, G, C, T> {
+    // The line that has been silent longest gives its place up, if it waits for nothing.
+    fn free_place(&self) {
+        let rt = self.shared.rt;
+        let Some(session) = self.lines.most_silent(rt, self.shared.floor) else {
+            return;
+        };
+        self.shared.floor.shut_silent(rt, session);
+        if !self.shared.floor.is_open(rt, session) {
+            self.lines.hang_up(rt, session);
+            self.lines.wait_for_place(rt);
+        }
+    }
+
     // Opens the session of a line that has come, unless as many are served as may be at once, or
     // memory is wanting: its connection is closed then.
     fn welcome(&self, reader: R, writer: W, hangup: X) -> Guest<Caller<A, O, R, W, X>>
@@ -134,6 +149,9 @@ impl<
         ensures { IfCaller result (λ caller. D.gives caller.reader caller.writer) }
     {
         let rt = self.shared.rt;
+        if self.lines.is_full(rt) {
+            self.free_place();
+        }
         if self.lines.is_full(rt) || !self.lines.make_room(rt) {
             return Guest::Refused;
         }
@@ -308,9 +326,7 @@ fn run_in<
     let Ok(kept) = Kept::<H, A, O>::new(alloc, house, config, bounds.era, asks, outs) else {
         return Err(RunFault::NoMemory);
     };
-    let Ok(floor) = Floor::new(alloc, kept, bounds.lines, bounds.era_bytes, bounds.backlog) else {
-        return Err(RunFault::NoMemory);
-    };
+    let floor = floor_over(alloc, kept, bounds)?;
     let mut door = door;
     let lines = Lines::<R, W, X, D>::new(alloc, bounds.lines);
     let gate = RunGate {
@@ -339,6 +355,26 @@ fn run_in<
         lines.into_served(),
         seed,
     )
+}
+
+/// A lock round a history that is held to these bounds.
+fn floor_over<H: InParts, A: Ledger, O: Ledger>(
+    alloc: Global,
+    kept: Kept<H, A, O>,
+    bounds: Bounds,
+) -> Result<Floor<H, A, O>, RunFault> {
+    let floor = Floor::new(
+        alloc,
+        kept,
+        bounds.lines,
+        bounds.era_bytes,
+        bounds.backlog,
+        bounds.backlog_bytes,
+    );
+    match floor {
+        Ok(floor) => Ok(floor),
+        Err(_) => Err(RunFault::NoMemory),
+    }
 }
 
 /// Serves the lines of a door over an empty house until the door is closed and all have ended. A

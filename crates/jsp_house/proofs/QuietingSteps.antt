@@ -1,7 +1,7 @@
 -- The step that quiets a space further is legal, and there is one wherever the space isn't quiet.
 use Rattle.std.proofs.Common.{◌≡◌, refl, ap, subst, option_map, ◌∙◌, ℕ, ◌<◌, ◌≤◌, List, take, length, Bool, true, false, not, ◌&&◌, ◌||◌, Some, None, ◌==◌, arith}
 use Rattle.std.specs.Prelude.{find}
-use Rattle.std.specs.List.{list_all}
+use Rattle.std.specs.List.{list_all, list_any}
 use Rattle.std.proofs.lemmas.Bool.{and_parts, and_from, eqb-true, eqb-false, not-true}
 use Rattle.jsp_model.specs.declared.state.State.{State}
 use Rattle.jsp_model.specs.declared.state.Registration.{Registration}
@@ -15,7 +15,7 @@ use Rattle.jsp_model.specs.Lookup.{registration_of}
 use Rattle.jsp_model.specs.House.{all_must_wait, comes_in_turn}
 use Rattle.std.specs.Prelude.{Option}
 use Rattle.std.specs.Option.{option_map_or}
-use Rattle.jsp_laws.proofs.Lists.{Has, each_has, found_has}
+use Rattle.jsp_laws.proofs.Lists.{Has, each_any, each_has, each_itself, found_has}
 use Rattle.jsp_quiet.proofs.Progress.{can_grant, can_empty, can_tell, find_only}
 use Rattle.jsp_quiet.proofs.Lists.{all_has, find_none}
 use Rattle.jsp_house.proofs.Places.{limits_rising, limits_some}
@@ -52,10 +52,34 @@ says_nothing st p b h none found =
     unfound true false e k = absurd (cc)
     unfound false b e k = absurd (cc)
 
-pub tells : (st : State) (p : ℕ) (r : Registration) → IsWithinLimits st → find (is_owed p) st.registrations ≡ Some r → is_legal st (step.Tell r.number) ≡ true
-tells st p r h found =
-    let k = found_has (is_owed p) st.registrations r found in
-    can_tell st r (limits_rising st h) k.0 (some_of (length r.owed) (and_parts (r.space == p) (not (length r.owed == 0)) k.1).1)
+abbrev pub owes_number : State → ℕ → ℕ → Bool
+owes_number st p n = list_any (λ r. r.number == n && is_owed p r) st.registrations
+
+-- it is there, at the space, and owed an event
+record Owed (st : State) (p n : ℕ) : Type 0 where
+  one : Registration
+  there : Has st.registrations one
+  number : one.number ≡ n
+  space : one.space ≡ p
+  some : 0 < length one.owed
+
+owed_one : (st : State) (p n : ℕ) → owes_number st p n ≡ true → Owed st p n
+owed_one st p n some =
+    let (r, h, w) = each_any (Has st.registrations) (λ r. r.number == n && is_owed p r) st.registrations (each_itself st.registrations) some in
+    let parts = and_parts (r.number == n) (is_owed p r) w in
+    let here = and_parts (r.space == p) (not (length r.owed == 0)) parts.1 in
+    record {
+      one = r;
+      there = h;
+      number = eqb-true r.number n parts.0;
+      space = eqb-true r.space p here.0;
+      some = some_of (length r.owed) here.1;
+    }
+
+pub tells_number : (st : State) (p n : ℕ) → IsWithinLimits st → owes_number st p n ≡ true → is_legal st (step.Tell n) ≡ true
+tells_number st p n h some =
+    let k = owed_one st p n some in
+    subst (λ (m : ℕ). is_legal st (step.Tell m) ≡ true) k.number (can_tell st k.one (limits_rising st h) k.there k.some)
 
 -- where nothing of the kind is found
 none_left : {A : Type 0} (here done : A → Bool) (xs : List A) → find (λ x. here x && not (done x)) xs ≡ None → list_all (λ x. not (here x) || done x) xs ≡ true
@@ -66,50 +90,22 @@ none_left here done xs none = all_has (λ x. not (here x) || done x) xs (λ y k.
     turned true false e = absurd (cc)
     turned false b e = refl
 
-pub nothing_left : (st : State) (p : ℕ) → find (released st p) st.blocked ≡ None → find (is_owed p) st.registrations ≡ None → is_quiet st p ≡ true
+pub nobody_left : (st : State) (p : ℕ) → find (released st p) st.blocked ≡ None → list_all (λ r. not (r.space == p) || length r.owed == 0) st.registrations ≡ true → is_quiet st p ≡ true
 unfolding is_quiet
-nothing_left st p waits owes =
+nobody_left st p waits owes =
     and_from (list_all (λ b. not (b.space == p) || must_wait st b) st.blocked) (list_all (λ r. not (r.space == p) || length r.owed == 0) st.registrations)
-    (none_left (λ (b : Blocked). b.space == p) (must_wait st) st.blocked waits)
-    (none_left (λ (r : Registration). r.space == p) (λ (r : Registration). length r.owed == 0) st.registrations owes)
+    (none_left (λ (b : Blocked). b.space == p) (must_wait st) st.blocked waits) owes
 
 -- ---- events come last
 
 registration_found : (st : State) (r : Registration) → IsWithinLimits st → Has st.registrations r → registration_of st r.number ≡ Some r
 registration_found st r h there = find_only (λ (q : Registration). q.number) st.registrations r (limits_rising st h).registrations there
 
-pub tells_in_turn : (st : State) (p : ℕ) (r : Registration) (owed : List ℕ) → IsWithinLimits st → find (released st p) st.blocked ≡ None → find (is_owed p) st.registrations ≡ Some r → comes_in_turn st owed (step.Tell r.number) ≡ true
+pub tells_number_in_turn : (st : State) (p n : ℕ) (owed : List ℕ) → IsWithinLimits st → find (released st p) st.blocked ≡ None → owes_number st p n ≡ true → comes_in_turn st owed (step.Tell n) ≡ true
 unfolding all_must_wait
-tells_in_turn st p r owed h waits found =
-    let k = found_has (is_owed p) st.registrations r found in
-    let here : r.space ≡ p = eqb-true r.space p (and_parts (r.space == p) (not (length r.owed == 0)) k.1).0 in
-    ap (λ (o : Option Registration). option_map_or (λ (q : Registration). all_must_wait st q.space) o true) (registration_found st r h k.0)
-    ∙ ap (all_must_wait st) here
-    ∙ none_left (λ (b : Blocked). b.space == p) (must_wait st) st.blocked waits
-
--- ---- the registration by its number
-
--- the number of the first that is owed an event
-abbrev pub first_owed : State → ℕ → Option ℕ
-first_owed st p = option_map (λ (r : Registration). r.number) (find (is_owed p) st.registrations)
-
-owed_one : (st : State) (p n : ℕ) (P : ℕ → Type 0) → ((r : Registration) → find (is_owed p) st.registrations ≡ Some r → P r.number) → first_owed st p ≡ Some n → P n
-owed_one st p n P one found =
-    let Goal : Option Registration → Type 0 = λ o. find (is_owed p) st.registrations ≡ o → option_map (λ (r : Registration). r.number) o ≡ Some n → P n in
-    let by_cases : (o : Option Registration) → Goal o = λ o. elim o as Goal [
-      | None ↦ λ is e. absurd (cc e)
-      | Some r ↦ λ is e. let same : r.number ≡ n = cc in subst P same (one r is)
-    ] in
-    by_cases (find (is_owed p) st.registrations) refl found
-
-pub tells_number : (st : State) (p n : ℕ) → IsWithinLimits st → first_owed st p ≡ Some n → is_legal st (step.Tell n) ≡ true
-tells_number st p n h found = owed_one st p n (λ (m : ℕ). is_legal st (step.Tell m) ≡ true) (λ r is. tells st p r h is) found
-
-pub tells_number_in_turn : (st : State) (p n : ℕ) (owed : List ℕ) → IsWithinLimits st → find (released st p) st.blocked ≡ None → first_owed st p ≡ Some n → comes_in_turn st owed (step.Tell n) ≡ true
-tells_number_in_turn st p n owed h waits found = owed_one st p n (λ (m : ℕ). comes_in_turn st owed (step.Tell m) ≡ true) (λ r is. tells_in_turn st p r owed h waits is) found
-
-pub nobody_left : (st : State) (p : ℕ) → find (released st p) st.blocked ≡ None → first_owed st p ≡ None → is_quiet st p ≡ true
-nobody_left st p waits none =
-    let unmapped : (o : Option Registration) → option_map (λ (r : Registration). r.number) o ≡ None → o ≡ None =
-    λ o. elim o as (λ o. option_map (λ (r : Registration). r.number) o ≡ None → o ≡ None) [ None ↦ λ e. refl | Some r ↦ λ e. absurd (cc e) ] in
-    nothing_left st p waits (unmapped (find (is_owed p) st.registrations) none)
+tells_number_in_turn st p n owed h waits some =
+    let k = owed_one st p n some in
+    subst (λ (m : ℕ). comes_in_turn st owed (step.Tell m) ≡ true) k.number
+    (ap (λ (o : Option Registration). option_map_or (λ (q : Registration). all_must_wait st q.space) o true) (registration_found st k.one h k.there)
+    ∙ ap (all_must_wait st) k.space
+    ∙ none_left (λ (b : Blocked). b.space == p) (must_wait st) st.blocked waits)

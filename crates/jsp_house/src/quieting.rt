@@ -1,6 +1,6 @@
 //! What a space that isn't quiet owes next.
-ghost use Rattle.std.specs.Prelude.{◌≡◌, ℕ, List, ◌==◌, ◌&&◌, not, length, find, option_map, IfOk, IfSome, IfNone, IsTrue};
-ghost use Rattle.jsp_model.specs.declared.state.Registration.{Registration as OfRegistration};
+ghost use Rattle.std.specs.Prelude.{ℕ, List, ◌==◌, ◌&&◌, ◌||◌, not, length, IfOk, IfSome, IfNone, IsTrue};
+ghost use Rattle.std.specs.List.{list_all, list_any};
 ghost use Rattle.jsp_model.specs.Quiet.{is_quiet};
 ghost use Rattle.jsp_model.specs.Steps.{is_legal};
 ghost use Rattle.jsp_model.specs.House.{comes_in_turn};
@@ -15,8 +15,8 @@ use std::alloc::Global;
 
 /// The next step that makes a space quieter, or nothing where it is quiet: a grant to the request
 /// that came first of those with an available row; else the answer that there is nothing, in arrival
-/// order; else the next event of the registration with the least number. The order is this profile's
-/// own.
+/// order; else the next event of the registration with the least number, of those that have heard of one. The
+/// order is this profile's own.
 pub(crate) fn quieting_step(
     alloc: Global,
     image: &LiveImage,
@@ -40,15 +40,16 @@ pub(crate) fn quieting_step(
             blocked: blocked.number,
         }));
     }
-    match first_owed(state, space) {
+    match next_owed(state, space) {
         None => Ok(None),
         Some(registration) => Ok(Some(Step::Tell { registration })),
     }
 }
 
-/// The number of the first registration of the space that is owed an event.
-fn first_owed(state: &Core, space: u64) -> Option<u64>
-    ensures { result ≡ option_map (λ (r : OfRegistration). r.number) (find (λ r. r.space == space && not (length r.owed == 0)) state.now.registrations) }
+/// The number of a registration of the space that is owed an event.
+fn next_owed(state: &Core, space: u64) -> Option<u64>
+    ensures some { IfSome result (λ n. IsTrue (list_any (λ r. r.number == n && (r.space == space && not (length r.owed == 0))) state.now.registrations)) }
+    ensures none { IfNone result (IsTrue (list_all (λ r. not (r.space == space) || length r.owed == 0) state.now.registrations)) }
 {
-    state.registrations.first_owed(space)
+    state.registrations.next_owed(space)
 }

@@ -278,4 +278,15 @@ impl<K> InParts for StateHouse<K> {
     fn next_time(&mut self, reading: u64) -> u64 {
         next_time(self.alloc, &mut self.image, reading)
     }
+
+    fn awaits(&self, session: u64) -> bool {
+        let state = self.image.state();
+        state.blocked.has_at_least(session, 1)
+            || state.registrations.has_any_of(session)
+            || 0 < state.outboxes.waiting(session)
+    }
+
+    fn weight(&self, session: u64) -> u64 {
+        self.image.state().outboxes.weight(session)
+    }
 }

@@ -17,12 +17,18 @@ pub(crate) fn first_unquiet(image: &LiveImage) -> Option<u64>
     (0..count).find(|space| !is_quiet(image, *space))
 }
 
-/// The same, once each space has applied what was decided, and registrations were told of it.
+/// The same. The spaces up to it have applied what was decided, and their registrations were told of it.
 pub(crate) fn first_to_quiet(image: &mut LiveImage) -> Option<u64>
     ensures found { result ≡ first_of_all image.old }
     ensures same { image.new ≡ image.old }
 {
-    image.apply_all();
+    let count = image.state().spaces.as_slice().len() as u64;
+    'spaces: for space in 0..count {
+        image.apply_in(space);
+        if !is_quiet(image, space) {
+            break 'spaces;
+        }
+    }
     first_unquiet(image)
 }
 

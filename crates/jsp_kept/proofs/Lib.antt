@@ -9,5 +9,6 @@ mod Sealing
 mod Growing
 mod Ending
 mod Besides
+mod Stopping
 mod Turning
 mod Passing

@@ -43,8 +43,8 @@ impl<H: House, A: Ledger, O: Ledger> Kept<H, A, O> {
         self.open_in_era(session)
     }
 
-    /// A request or fault of the seat's session. Where the session is closed, it is passed over. Of a
-    /// fault the caller's condition is that of `Input::Fault`; what a `Line` gives keeps it.
+    /// A request or fault of the seat's session. Where the session is closed, it is passed over. Of
+    /// a fault the caller's condition is that of `Input::Fault`; what a `Line` gives keeps it.
     pub fn act(&mut self, seat: &mut AskSeat<A>, given: LineInput) -> Result<(), Stopped>
         requires { IsTrue (is_line_input given) }
         ensures audit { is_lawful self.old.asked self.old.asks_book seat.old ≡ false → (result ≡ Err audit) × (self.new ≡ self.old) × (seat.new ≡ seat.old) }

@@ -126,9 +126,9 @@ impl<H: House, A: Ledger, O: Ledger> Kept<H, A, O> {
         })
     }
 
-    /// Moves a few of the steps of an era that is over to a vector, as many as that has room for, where some are left, so
-    /// that the caller frees them where nobody waits for it. Nothing else changes. To be called with each call that makes
-    /// steps, with room for `MOST_OLD`.
+    /// Moves a few of the steps of an era that is over to a vector, as many as that has room for,
+    /// where some are left, so that the caller frees them where nobody waits for it. Nothing else
+    /// changes. To be called with each call that makes steps, with room for `MOST_OLD`.
     pub fn take_old(&mut self, old: &mut Vec<Step>)
         ensures { self.new ≡ self.old }
     {
@@ -230,9 +230,10 @@ impl<H: House, A: Ledger, O: Ledger> Kept<H, A, O> {
         }
     }
 
-    /// Begins a new era where the history stands, with no steps. The counts go on. The steps so far are gone, and no copy
-    /// of the state stands for them: that they were one run to it is what the type keeps. Where there is memory they are
-    /// freed by and by, so that nobody waits for all of them.
+    /// Begins a new era where the history stands, with no steps. The counts go on. The steps so far
+    /// are gone, and no copy of the state stands for them: that they were one run to it is what the
+    /// type keeps. Where there is memory they are freed by and by, so that nobody waits for all of
+    /// them.
     pub fn seal(&mut self)
         ensures { Seals self.old self.new }
     {
@@ -245,7 +246,8 @@ impl<H: House, A: Ledger, O: Ledger> Kept<H, A, O> {
 }
 
 impl<H: Backlog, A: Ledger, O: Ledger> Kept<H, A, O> {
-    /// A session that was told something since it was named here, while there is one. Nothing else changes.
+    /// A session that was told something since it was named here, while there is one. Nothing else
+    /// changes.
     pub fn next_told(&mut self) -> Option<u64>
         ensures { self.new ≡ self.old }
     {

@@ -1,14 +1,17 @@
-//! Calls in parts, so that no hold of a lock is long: each makes so many steps at most, and `EraFull` says that more are to
-//! be made. What is left to be made is owed, and calls beside it aren't held up by it.
-ghost use Rattle.std.specs.Prelude.{◌≡◌, ◌≤◌, ◌<◌, [], false, true, OnOk, IfOk, IfErr, IsTrue};
+//! Calls in parts, so that no hold of a lock is long: each makes so many steps at most, and
+//! `EraFull` says that more are to be made: it made as many, or filled its era. What is left to be
+//! made is owed, and calls beside it aren't held up by it.
+ghost use Rattle.std.specs.Prelude.{◌≡◌, ◌==◌, ◌||◌, ◌≤◌, ◌+◌, [], false, true, filter, length, nat_le, nat_lt, OnOk, IfOk, IfErr, IsTrue};
 ghost use Rattle.jsp_model.specs.declared.house.Input.TheVariants as input;
 ghost use Rattle.jsp_model.specs.declared.house.Why.TheVariants as why;
+ghost use Rattle.std.specs.List.{list_any};
 ghost use Rattle.jsp_model.specs.Lookup.{is_open};
+ghost use Rattle.jsp_model.specs.Outboxes.{outbox_of};
 ghost use Rattle.jsp_model.specs.House.{Answers, IsReady, acted, is_input, settled_by};
-ghost use Rattle.jsp_kept.specs.History.{is_lawful};
+ghost use Rattle.jsp_kept.specs.History.{is_lawful, limit_of};
 ghost use Rattle.jsp_kept.specs.Calls.{IsOf, KeepsAsks, KeepsOuts, RaisesAsks, audit, made, outcome};
 ghost use Rattle.jsp_kept.specs.Eras.{HasPlace, Performs};
-ghost use Rattle.jsp_kept.specs.Parts.{EndsPart, PerformsBeside, PreparesBeside};
+ghost use Rattle.jsp_kept.specs.Parts.{EndsPart, IsLong, PerformsBeside, PreparesBeside, begun, limit_begun};
 
 use crate::counts::{may_count, raise};
 use crate::in_era::{own_steps, unmade};
@@ -20,20 +23,24 @@ use jsp_model::{Input, Settled, Stopped, Why};
 use std::sync::ledger::Ledger;
 
 impl<H: InParts, A: Ledger, O: Ledger> Kept<H, A, O> {
-    /// Makes what is due, and what the spaces owe that the input's own step touches, at most so many steps of it.
+    /// Makes what is due, and what the spaces owe that the input's own step touches, at most so
+    /// many steps of it.
     pub fn make_ready_some(&mut self, input: &Input, most: u64) -> Result<(), Why>
         ensures prepares { PreparesBeside self.old self.new result }
         ensures ready { OnOk result (IsReady self.new.state [] input.now) }
         ensures why { IfErr result EndsPart }
         ensures asks { KeepsAsks self.old self.new }
         ensures outs { KeepsOuts self.old self.new }
+        ensures few { length self.new.steps ≤ length self.old.steps + most }
+        ensures long { IfErr result (λ w. w ≡ why.EraFull → IsLong (begun self.old) (limit_begun self.old) most (length self.new.steps)) }
     {
         self.make_place();
         self.ready_part(input, most)
     }
 
-    /// A request or fault of the seat's session, for which the house was made ready, and what follows from it, at most so
-    /// many steps in all, and one at least. Where the session is closed, it is passed over.
+    /// A request or fault of the seat's session, for which the house was made ready, and what
+    /// follows from it, at most so many steps in all. Where the session is closed, it is passed
+    /// over.
     pub fn act_beside(
         &mut self,
         seat: &mut AskSeat<A>,
@@ -48,6 +55,8 @@ impl<H: InParts, A: Ledger, O: Ledger> Kept<H, A, O> {
         ensures counts { is_lawful self.old.asked self.old.asks_book seat.old ≡ true → RaisesAsks self.old self.new seat.old seat.new (made (is_open self.old.state seat.old.session) result) }
         ensures why { is_lawful self.old.asked self.old.asks_book seat.old ≡ true → IfErr result (λ e. EndsPart e.why) }
         ensures outs { KeepsOuts self.old self.new }
+        ensures few { length self.new.steps ≤ length self.old.steps + most }
+        ensures long { is_lawful self.old.asked self.old.asks_book seat.old ≡ true → IfErr result (λ e. e.why ≡ why.EraFull → IsLong (begun self.old) (limit_begun self.old) most (length self.new.steps)) }
     {
         if !may_count(
             self.asked.as_slice(),
@@ -61,14 +70,16 @@ impl<H: InParts, A: Ledger, O: Ledger> Kept<H, A, O> {
         self.act_part(seat, input, most)
     }
 
-    /// A reading of the clock, for which the house was made ready, and what follows from it, in at most so many steps, and
-    /// one at least.
+    /// A reading of the clock, for which the house was made ready, and what follows from it, in at
+    /// most so many steps.
     pub fn clock_beside(&mut self, time: u64, most: u64) -> Result<(), Stopped>
         requires ready { IsReady self.old.state [] (input.Clock time) }
         ensures performs { PerformsBeside self.old self.new (acted self.old.state (input.Clock time) result) result }
         ensures why { IfErr result (λ e. EndsPart e.why) }
         ensures asks { KeepsAsks self.old self.new }
         ensures outs { KeepsOuts self.old self.new }
+        ensures few { length self.new.steps ≤ length self.old.steps + most }
+        ensures long { IfErr result (λ e. e.why ≡ why.EraFull → IsLong (begun self.old) (limit_begun self.old) most (length self.new.steps)) }
     {
         self.make_place();
         self.clock_part(time, most)
@@ -80,6 +91,8 @@ impl<H: InParts, A: Ledger, O: Ledger> Kept<H, A, O> {
         ensures why { IfErr result (λ e. EndsPart e.why) }
         ensures asks { KeepsAsks self.old self.new }
         ensures outs { KeepsOuts self.old self.new }
+        ensures few { length self.new.steps ≤ length self.old.steps + most }
+        ensures long { IfErr result (λ e. e.why ≡ why.EraFull → IsLong (begun self.old) (limit_begun self.old) most (length self.new.steps)) }
     {
         self.make_place();
         self.finish_part(most)
@@ -92,17 +105,33 @@ impl<H: InParts, A: Ledger, O: Ledger> Kept<H, A, O> {
         ensures why { IfErr result (λ e. EndsPart e.why) }
         ensures asks { KeepsAsks self.old self.new }
         ensures outs { KeepsOuts self.old self.new }
+        ensures few { length self.new.steps ≤ length self.old.steps + most }
+        ensures long { IfErr result (λ e. e.why ≡ why.EraFull → IsLong (begun self.old) (limit_begun self.old) most (length self.new.steps)) }
     {
         self.make_place();
         self.settle_part(most)
     }
 
-    /// How far the clock is to go on towards a reading, so that ends come one at a time. Nothing changes.
+    /// How far the clock is to go on towards a reading, so that ends come one at a time. Nothing
+    /// changes.
     pub fn next_time(&mut self, reading: u64) -> u64
         ensures within { result ≤ reading }
         ensures same { self.new ≡ self.old }
     {
         self.house.next_time(reading)
+    }
+
+    /// Whether a session has a request that waits, a registration, or an answer that it wasn't
+    /// handed.
+    pub fn awaits(&self, session: u64) -> bool
+        ensures { result ≡ ((nat_le 1 (length (filter (λ b. b.session == session) self.now.state.blocked)) || list_any (λ r. r.session == session) self.now.state.registrations) || nat_lt 0 (length (outbox_of self.now.state session))) }
+    {
+        self.house.awaits(session)
+    }
+
+    /// About how many bytes of memory the answers take that wait for a session. No clause says it.
+    pub fn weight(&self, session: u64) -> u64 {
+        self.house.weight(session)
     }
 
     fn ready_part(&mut self, input: &Input, most: u64) -> Result<(), Why>
@@ -111,6 +140,8 @@ impl<H: InParts, A: Ledger, O: Ledger> Kept<H, A, O> {
         ensures why { IfErr result EndsPart }
         ensures asks { KeepsAsks self.old self.new }
         ensures outs { KeepsOuts self.old self.new }
+        ensures few { length self.new.steps ≤ length self.old.steps + most }
+        ensures long { IfErr result (λ w. w ≡ why.EraFull → IsLong (length self.old.steps) (limit_of self.old) most (length self.new.steps)) }
     {
         ready_within(&mut self.house, input, most, self.limit, &mut self.log)
     }
@@ -124,6 +155,8 @@ impl<H: InParts, A: Ledger, O: Ledger> Kept<H, A, O> {
         ensures counts { RaisesAsks self.old self.new seat.old seat.new (made (is_open self.old.state seat.old.session) result) }
         ensures why { IfErr result (λ e. EndsPart e.why) }
         ensures outs { KeepsOuts self.old self.new }
+        ensures few { length self.new.steps ≤ length self.old.steps + most }
+        ensures long { IfErr result (λ e. e.why ≡ why.EraFull → IsLong (length self.old.steps) (limit_of self.old) most (length self.new.steps)) }
     {
         let session = seat.session;
         let open = self.house.is_open(session);
@@ -142,6 +175,8 @@ impl<H: InParts, A: Ledger, O: Ledger> Kept<H, A, O> {
         ensures why { IfErr result (λ e. EndsPart e.why) }
         ensures asks { KeepsAsks self.old self.new }
         ensures outs { KeepsOuts self.old self.new }
+        ensures few { length self.new.steps ≤ length self.old.steps + most }
+        ensures long { IfErr result (λ e. e.why ≡ why.EraFull → IsLong (length self.old.steps) (limit_of self.old) most (length self.new.steps)) }
     {
         act_within(
             &mut self.house,
@@ -157,6 +192,8 @@ impl<H: InParts, A: Ledger, O: Ledger> Kept<H, A, O> {
         ensures why { IfErr result (λ e. EndsPart e.why) }
         ensures asks { KeepsAsks self.old self.new }
         ensures outs { KeepsOuts self.old self.new }
+        ensures few { length self.new.steps ≤ length self.old.steps + most }
+        ensures long { IfErr result (λ e. e.why ≡ why.EraFull → IsLong (length self.old.steps) (limit_of self.old) most (length self.new.steps)) }
     {
         finish_within(&mut self.house, most, self.limit, &mut self.log)
     }
@@ -167,6 +204,8 @@ impl<H: InParts, A: Ledger, O: Ledger> Kept<H, A, O> {
         ensures why { IfErr result (λ e. EndsPart e.why) }
         ensures asks { KeepsAsks self.old self.new }
         ensures outs { KeepsOuts self.old self.new }
+        ensures few { length self.new.steps ≤ length self.old.steps + most }
+        ensures long { IfErr result (λ e. e.why ≡ why.EraFull → IsLong (length self.old.steps) (limit_of self.old) most (length self.new.steps)) }
     {
         settle_within(&mut self.house, most, self.limit, &mut self.log)
     }

@@ -4,7 +4,8 @@ ghost use Rattle.std.specs.Prelude.{◌≡◌};
 use std::marker::Model;
 use std::sync::ledger::{Ledger, Share};
 
-/// The half of a seat that asks. Contracts see its session, and how many requests and faults it made.
+/// The half of a seat that asks. Contracts see its session, and how many requests and faults it
+/// made.
 #[derive(Drop)]
 pub struct AskSeat<A: Ledger> {
     pub(crate) session: u64,

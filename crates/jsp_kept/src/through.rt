@@ -1,9 +1,11 @@
 //! Steps that go on through as many eras as they need. Only want of memory stops them.
-ghost use Rattle.std.specs.Prelude.{◌≡◌, [], true, Ok, IfErr, OnOk, OnErr};
+ghost use Rattle.std.specs.Prelude.{◌≡◌, ◌≤◌, [], true, length, Ok, IfErr, OnOk, OnErr};
 ghost use Rattle.jsp_model.specs.declared.house.Why.TheVariants as why;
 ghost use Rattle.jsp_model.specs.House.{IsReady};
 ghost use Rattle.jsp_kept.specs.Calls.{KeepsAsks, KeepsOuts};
 ghost use Rattle.jsp_kept.specs.Eras.{Grows, HasPlace, Performs, Prepares, no_memory};
+ghost use Rattle.jsp_kept.specs.History.{limit_of};
+ghost use Rattle.jsp_kept.specs.Parts.{begun, limit_begun};
 
 use crate::kept::Kept;
 use jsp_model::{House, Input, Stopped, Why};
@@ -18,6 +20,9 @@ impl<H: House, A: Ledger, O: Ledger> Kept<H, A, O> {
         ensures place { HasPlace self.new }
         ensures state { self.new.state ≡ self.old.state }
         ensures debt { self.new.debt ≡ self.old.debt }
+        ensures fewer { length self.new.steps ≤ length self.old.steps }
+        ensures begun { length self.new.steps ≡ begun self.old }
+        ensures limit { limit_of self.new ≡ limit_begun self.old }
         ensures asks { KeepsAsks self.old self.new }
         ensures outs { KeepsOuts self.old self.new }
     {

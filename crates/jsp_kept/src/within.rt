@@ -1,9 +1,9 @@
-//! Calls of the house that make so many steps at most, and one at least where the log isn't full: its bound is set closer
-//! for the call.
-ghost use Rattle.std.specs.Prelude.{◌≡◌, ◌<◌, ◌≤◌, ◌-◌, [], Some, IfErr, IsTrue, OnOk, vec_len, vec_capacity};
+//! Calls of the house that make so many steps at most: its bound is set closer for the call.
+ghost use Rattle.std.specs.Prelude.{◌≡◌, ◌≤◌, ◌+◌, ◌-◌, ◌⊎◌, [], Some, IfErr, IsTrue, OnOk, vec_len, vec_capacity};
+ghost use Rattle.jsp_model.specs.declared.house.Why.TheVariants as why;
 ghost use Rattle.jsp_model.specs.House.{Finishes, IsReady, KeepsBound, KeepsRoom, Settles, is_input};
 ghost use Rattle.jsp_beside.specs.Beside.{ActsBeside, GoesBeside};
-ghost use Rattle.jsp_kept.specs.Parts.{EndsPart};
+ghost use Rattle.jsp_kept.specs.Parts.{EndsPart, IsLong};
 
 use jsp_beside::InParts;
 use jsp_model::{House, Input, Settled, Step, Stopped, Why};
@@ -12,8 +12,10 @@ use jsp_model::{House, Input, Settled, Step, Stopped, Why};
 fn end_of_part(len: u64, most: u64, limit: u64) -> u64
     ensures within { result ≤ limit }
     ensures kept { len ≤ limit → len ≤ result }
+    ensures few { result ≤ len + most }
+    ensures long { (result ≡ len + most) ⊎ (result ≡ limit) }
 {
-    let end = len.saturating_add(most.max(1));
+    let end = len.saturating_add(most);
     end.min(limit)
 }
 
@@ -32,6 +34,8 @@ pub(crate) fn ready_within<H: InParts>(
     ensures why { IfErr result EndsPart }
     ensures room { KeepsRoom (H.view house.old) (H.view house.new) (vec_capacity log.old - vec_len log.old) (vec_capacity log.new - vec_len log.new) }
     ensures keeps { KeepsBound (H.bound_of house.old) (H.bound_of house.new) (vec_len log.old) (vec_len log.new) }
+    ensures few { vec_len log.new ≤ vec_len log.old + most }
+    ensures long { IfErr result (λ w. w ≡ why.EraFull → IsLong (vec_len log.old) limit most (vec_len log.new)) }
 {
     house.bound(end_of_part(log.len() as u64, most, limit));
     let result = house.make_ready_beside(input, log);
@@ -55,6 +59,8 @@ pub(crate) fn act_within<H: InParts>(
     ensures why { IfErr result (λ e. EndsPart e.why) }
     ensures room { KeepsRoom (H.view house.old) (H.view house.new) (vec_capacity log.old - vec_len log.old) (vec_capacity log.new - vec_len log.new) }
     ensures keeps { KeepsBound (H.bound_of house.old) (H.bound_of house.new) (vec_len log.old) (vec_len log.new) }
+    ensures few { vec_len log.new ≤ vec_len log.old + most }
+    ensures long { IfErr result (λ e. e.why ≡ why.EraFull → IsLong (vec_len log.old) limit most (vec_len log.new)) }
 {
     house.bound(end_of_part(log.len() as u64, most, limit));
     let result = house.act_beside(input, log);
@@ -75,6 +81,8 @@ pub(crate) fn finish_within<H: House>(
     ensures why { IfErr result (λ e. EndsPart e.why) }
     ensures room { KeepsRoom (H.view house.old) (H.view house.new) (vec_capacity log.old - vec_len log.old) (vec_capacity log.new - vec_len log.new) }
     ensures keeps { KeepsBound (H.bound_of house.old) (H.bound_of house.new) (vec_len log.old) (vec_len log.new) }
+    ensures few { vec_len log.new ≤ vec_len log.old + most }
+    ensures long { IfErr result (λ e. e.why ≡ why.EraFull → IsLong (vec_len log.old) limit most (vec_len log.new)) }
 {
     house.bound(end_of_part(log.len() as u64, most, limit));
     let result = house.finish(log);
@@ -95,6 +103,8 @@ pub(crate) fn settle_within<H: House>(
     ensures why { IfErr result (λ e. EndsPart e.why) }
     ensures room { KeepsRoom (H.view house.old) (H.view house.new) (vec_capacity log.old - vec_len log.old) (vec_capacity log.new - vec_len log.new) }
     ensures keeps { KeepsBound (H.bound_of house.old) (H.bound_of house.new) (vec_len log.old) (vec_len log.new) }
+    ensures few { vec_len log.new ≤ vec_len log.old + most }
+    ensures long { IfErr result (λ e. e.why ≡ why.EraFull → IsLong (vec_len log.old) limit most (vec_len log.new)) }
 {
     house.bound(end_of_part(log.len() as u64, most, limit));
     let result = house.settle(log);

@@ -67,6 +67,7 @@ pub struct Floor<H: InParts, A: Ledger, O: Ledger> {
     bytes: AtomicU64,
     most_bytes: u64,
     most_waiting: u64,
+    most_weight: u64,
     /// Whether an act may have left sessions open for which too many answers wait. It is set under
     /// the lock.
     are_more_over: AtomicBool,
@@ -244,13 +245,15 @@ fn hold<H: InParts, A: Ledger, O: Ledger>(
 
 impl<H: InParts, A: Ledger, O: Ledger> Floor<H, A, O> {
     /// Puts a lock round a history, for so many lines at once. After so many bytes that lines read
-    /// and wrote a new era begins, and a session for which more answers wait than so many is shut.
+    /// and wrote a new era begins, and a session for which more answers wait than so many, or answers
+    /// that take more memory, in bytes, is shut.
     pub fn new(
         alloc: Global,
         kept: Kept<H, A, O>,
         lines: usize,
         most_bytes: u64,
         most_waiting: u64,
+        most_weight: u64,
     ) -> Result<Floor<H, A, O>, NoMemory> {
         let spaces = kept.spaces().len();
         Ok(Floor {
@@ -261,6 +264,7 @@ impl<H: InParts, A: Ledger, O: Ledger> Floor<H, A, O> {
             bytes: AtomicU64::new(0),
             most_bytes,
             most_waiting,
+            most_weight,
             are_more_over: AtomicBool::new(false),
             is_left: AtomicBool::new(false),
             wanted: AtomicU64::new(0),
@@ -398,9 +402,11 @@ impl<H: InParts, A: Ledger, O: Ledger> Floor<H, A, O> {
         unreachable!()
     }
 
-    // Whether more answers wait for the session than may.
+    // Whether more answers wait for the session than may, or larger ones.
     fn is_over(&self, kept: &Kept<H, A, O>, session: u64) -> bool {
-        kept.waiting(session) > self.most_waiting && kept.is_open(session)
+        let is_much = kept.waiting(session) > self.most_waiting
+            || kept.weight(session) > self.most_weight;
+        is_much && kept.is_open(session)
     }
 
     // Counts the refusals among answers that were taken. The lock is held.
@@ -460,6 +466,20 @@ impl<H: InParts, A: Ledger, O: Ledger> Floor<H, A, O> {
             self.give_way(rt);
         }
         unreachable!()
+    }
+
+    /// Whether a session waits for an answer or for events.
+    pub fn awaits<T: Wait>(&self, rt: &T, session: u64) -> bool {
+        self.lock(rt).kept.awaits(session)
+    }
+
+    /// Shuts the session of a line that was silent, unless it waits for something by now.
+    pub fn shut_silent<T: Wait>(&self, rt: &T, session: u64) {
+        let mut locked = self.lock(rt);
+        if !locked.kept.awaits(session) {
+            locked.shut_for(session, ShutFor::Silent);
+            self.signal(session).notify_all();
+        }
     }
 
     /// How the session's line leaves, which has ended.
@@ -650,6 +670,7 @@ impl<H: InParts, A: Ledger, O: Ledger> Floor<H, A, O> {
             bytes: _,
             most_bytes: _,
             most_waiting: _,
+            most_weight: _,
             are_more_over: _,
             is_left: _,
             wanted: _,

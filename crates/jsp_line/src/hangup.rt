@@ -9,4 +9,7 @@ pub trait Hangup {
 
     /// How many whole frames of it were acted. Its line counts them.
     fn requests(&self) -> &AtomicU64;
+
+    /// For how many milliseconds none was.
+    fn silent(&self) -> u64;
 }

@@ -15,6 +15,8 @@ pub enum ShutFor {
     NoThread,
     /// The server was ending.
     Ending,
+    /// It was silent, waited for nothing, and another line wanted its place.
+    Silent,
 }
 
 /// Why a floor shut sessions by itself: what is noted of the session s stands at the place s - 1.

@@ -4,3 +4,4 @@ pub mod Listening
 pub mod Keyed
 pub mod Hearing
 pub mod Asked
+pub mod Told

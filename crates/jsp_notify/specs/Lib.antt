@@ -4,3 +4,4 @@ pub mod Sought
 pub mod Waiting
 pub mod Hinted
 pub mod News
+pub mod Hearing

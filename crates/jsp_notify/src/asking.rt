@@ -1,15 +1,16 @@
 //! What is asked of registrations, and under which keys they are found.
-ghost use Rattle.std.specs.Prelude.{ℕ, List, ◌==◌, ◌&&◌, [], ◌∷◌, ◌≡◌, None, not, length};
+ghost use Rattle.std.specs.Prelude.{ℕ, List, ◌==◌, ◌&&◌, [], ◌∷◌, ◌≡◌, not, length};
 ghost use Rattle.std.specs.List.{list_any};
 ghost use Rattle.jsp_types.specs.declared.class.Class.{Class};
 ghost use Rattle.jsp_types.specs.declared.entry.Entry.{Entry as OfEntry};
 ghost use Rattle.jsp_model.specs.Lookup.{is_caller as calls};
 ghost use Rattle.jsp_keys.specs.Keys.{session_key, transaction_key, space_key};
-ghost use Rattle.jsp_notify.specs.News.{hearing, untold};
+ghost use Rattle.jsp_notify.specs.News.{hearing, is_behind, untold};
 ghost use Rattle.jsp_notify.specs.Owing.{is_news as has_news};
 
 use crate::news::News;
 use crate::owing::is_news;
+use crate::untold::is_all_told;
 use jsp_keyed::Keys;
 use jsp_keys::{ByEntry, key_of_session, key_of_space, key_of_transaction};
 use jsp_model::{Registration, Row};
@@ -144,9 +145,23 @@ pub(crate) fn is_owed_after(news: &[News], registration: &Registration) -> bool
 }
 
 fn is_any_for(news: &[News], registration: &Registration) -> bool
-    ensures { result ≡ list_any (λ n. list_any (has_news n.classes None registration.now) (untold n)) news.now }
+    ensures { result ≡ list_any (λ n. list_any (has_news n.classes n.caller registration.now) (untold n registration.now.space)) news.now }
 {
     news.iter().any(|one| one.is_for(registration))
+}
+
+/// Whether it is owed nothing that it has heard of, and its space hasn't heard all.
+#[derive(Drop)]
+pub(crate) struct Behind<'a> {
+    pub(crate) news: &'a [News],
+}
+
+impl<'a> Test<Registration> for Behind<'a> {
+    ghost is_passed = { λ t r. is_behind t.news.now r };
+
+    fn passes(&self, registration: &Registration) -> bool {
+        registration.owed.as_slice().is_empty() && !is_all_told(self.news, registration.space)
+    }
 }
 
 /// Whether a row that the caller wrote is news to it.

@@ -13,8 +13,8 @@ use jsp_model::{Rank, Registration};
 use jsp_table::Numbering;
 use jsp_types::NoMemory;
 
-/// Registrations go by their numbers. Each is named under its session, its transaction, its space, and
-/// the keys of its template.
+/// Registrations go by their numbers. Each is named under its session, its transaction, its space,
+/// and the keys of its template.
 #[derive(Drop)]
 pub(crate) struct ByNumber {}
 

@@ -1,5 +1,5 @@
-//! Registrations with all that they are owed. Contracts see them as a list, in the order in which they were
-//! made.
+//! Registrations with all that they are owed. Contracts see them as a list, in the order in which
+//! they were made.
 ghost use Rattle.std.specs.Prelude.{◌≡◌, ◌==◌, ◌&&◌, ◌||◌, ◌++◌, ◌∷◌, ◌^◌, ◌+◌, ℕ, [], true, not, nat_le, map, filter, find, length, option_copied, option_map, IfOk, OnOk, OnErr, MatchOption, IsTrue};
 ghost use Rattle.jsp_model.specs.declared.state.Registration.{Registration as OfRegistration};
 ghost use Rattle.jsp_keyed.specs.Finding.{is_sought};
@@ -60,8 +60,8 @@ impl Heard {
         }
     }
 
-    /// No registrations; they will be found by hints. The keys come from the seed, which clients aren't
-    /// to know.
+    /// No registrations; they will be found by hints. The keys come from the seed, which clients
+    /// aren't to know.
     pub(crate) fn new(alloc: Global, seed: u64) -> Self
         ensures { result ≡ [] }
     {
@@ -125,8 +125,8 @@ impl Heard {
         }
     }
 
-    /// Adds a registration at the end. Hints are for rising numbers, which the machine's are; each is
-    /// looked at from here on.
+    /// Adds a registration at the end. Hints are for rising numbers, which the machine's are; each
+    /// is looked at from here on.
     fn push_scanned(&mut self, registration: Registration) -> Result<(), NoMemory>
         ensures ok { OnOk result (self.new ≡ self.old ++ registration ∷ []) }
         ensures err { OnErr result (self.new ≡ self.old) }
@@ -181,12 +181,12 @@ impl Heard {
 
     // ---- change in place
 
-    /// Each registration is owed those of the rows, written by the caller, that are news to it, in their
-    /// order: what is written under a transaction is for the registrations under it, and else for each;
-    /// in its space, and as its template matches. `forgive_all` takes that back.
+    /// Each registration is owed those of the rows, written by the caller, that are news to it, in
+    /// their order: what is written under a transaction is for the registrations under it, and else
+    /// for each; in its space, and as its template matches. `forgive_all` takes that back.
     ///
-    /// An event is told for each entry that becomes visible (JavaSpaces notify). That one is told for
-    /// each row, in the order of the rows, is this profile's own.
+    /// An event is told for each entry that becomes visible (JavaSpaces notify). That one is told
+    /// for each row, in the order of the rows, is this profile's own.
     ///
     /// # Errors
     ///
@@ -206,7 +206,8 @@ impl Heard {
         }
     }
 
-    /// Takes back what each registration was owed last: as many rows as are news to it. Takes no memory.
+    /// Takes back what each registration was owed last: as many rows as are news to it. Takes no
+    /// memory.
     pub fn forgive_all(&mut self, classes: &Classes, rows: &[Row], caller: Option<u64>)
         ensures { self.new ≡ map (forgiven classes.now caller rows.now) self.old }
     {
@@ -216,8 +217,8 @@ impl Heard {
         }
     }
 
-    /// The next event of a registration is told: it is owed one less, and its sequence number rises by
-    /// one. Takes no memory.
+    /// The next event of a registration is told: it is owed one less, and its sequence number rises
+    /// by one. Takes no memory.
     pub(crate) fn tell(&mut self, number: u64)
         requires { IsTrue (list_all (λ r. nat_le (r.sequence + 1) (2 ^ 63)) self.old) }
         ensures { self.new ≡ update (λ r. r.number == number) told_once self.old }
@@ -307,8 +308,8 @@ impl Heard {
         }
     }
 
-    /// The number of the first that passes the test, which only those pass that have one of the keys that are
-    /// sought.
+    /// The number of the first that passes the test, which only those pass that have one of the
+    /// keys that are sought.
     pub(crate) fn first_number<P: Test<Registration> + Keys>(&self, test: &P) -> Option<u64>
         requires { (seed : ℕ) (r : OfRegistration) → P.is_passed test.now r ≡ true → is_sought (P.sought test.now seed) (registration_keys seed r) ≡ true }
         ensures { result ≡ option_map (λ (r : OfRegistration). r.number) (find (P.is_passed test.now) self.now) }

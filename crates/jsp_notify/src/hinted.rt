@@ -51,8 +51,8 @@ impl HintedRegistrations {
         }
     }
 
-    /// Adds a registration at the end, whole or not at all, or gives it back where its number isn't above
-    /// all that were given.
+    /// Adds a registration at the end, whole or not at all, or gives it back where its number isn't
+    /// above all that were given.
     pub(crate) fn push(
         &mut self,
         registration: Registration,
@@ -77,7 +77,8 @@ impl HintedRegistrations {
         forget_gone(&mut self.owed, space, number);
     }
 
-    /// Those that pass the test go, which only those pass that have one of the keys that are sought.
+    /// Those that pass the test go, which only those pass that have one of the keys that are
+    /// sought.
     pub(crate) fn remove_all<P: Test<Registration> + Keys>(&mut self, test: &P)
         requires { (seed : ℕ) (r : OfRegistration) → P.is_passed test.now r ≡ true → is_sought (P.sought test.now seed) (registration_keys seed r) ≡ true }
         ensures { self.new ≡ filter (λ r. not (P.is_passed test.now r)) self.old }
@@ -89,8 +90,8 @@ impl HintedRegistrations {
 
     // ---- change in place
 
-    /// Each registration is owed those of the rows, written by the caller, that are news to it: whole or
-    /// not at all.
+    /// Each registration is owed those of the rows, written by the caller, that are news to it:
+    /// whole or not at all.
     pub(crate) fn owe_all(
         &mut self,
         classes: &Classes,
@@ -118,8 +119,8 @@ impl HintedRegistrations {
         }
     }
 
-    /// Each registration is owed the row, written by the caller, where that is news to it: whole or not
-    /// at all.
+    /// Each registration is owed the row, written by the caller, where that is news to it: whole or
+    /// not at all.
     fn owe(&mut self, classes: &Classes, row: &Row, caller: Option<u64>) -> Result<(), NoMemory>
         ensures ok { OnOk result (self.new ≡ map (with_owed classes.now caller (row.now ∷ [])) self.old) }
         ensures err { OnErr result (self.new ≡ self.old) }

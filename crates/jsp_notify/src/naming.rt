@@ -10,7 +10,8 @@ use jsp_model::Registration;
 use jsp_table::{Hints, Numbers};
 use jsp_types::NoMemory;
 
-/// Names a registration at its space, if it is owed an event. Nothing goes from any list, on `Err` either.
+/// Names a registration at its space, if it is owed an event. Nothing goes from any list, on `Err`
+/// either.
 pub(crate) fn name_owed(owed: &mut Hints, registration: &Registration) -> Result<(), NoMemory>
     ensures ok { OnOk result (IsNamed owed.new registration.now) }
     ensures keeps { Keeps owed.old owed.new }
@@ -38,7 +39,8 @@ pub(crate) fn name_listeners(
     Ok(())
 }
 
-/// A registration that is gone is named at its space no more. The others stay named. Takes no memory.
+/// A registration that is gone is named at its space no more. The others stay named. Takes no
+/// memory.
 pub(crate) fn forget_gone(owed: &mut Hints, space: Option<u64>, number: u64)
     ensures { KeepsOthers number owed.old owed.new }
 {
@@ -47,7 +49,8 @@ pub(crate) fn forget_gone(owed: &mut Hints, space: Option<u64>, number: u64)
     }
 }
 
-/// The registration of this number is named at its space no more if it is owed no event. Takes no memory.
+/// The registration of this number is named at its space no more if it is owed no event. Takes no
+/// memory.
 pub(crate) fn forget_told(owed: &mut Hints, registrations: &Found, number: u64)
     requires { AreNamed owed.old registrations.now }
     ensures { AreNamed owed.new registrations.now }

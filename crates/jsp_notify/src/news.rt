@@ -1,102 +1,118 @@
-//! What commits tell registrations: recorded with the decision, and told a row at a time.
-ghost use Rattle.std.specs.Prelude.{◌≡◌, ◌<◌, ℕ, [], ◌∷◌, None, map, length, nat_le, OnOk, IfOk};
-ghost use Rattle.std.specs.List.{list_any};
-ghost use Rattle.jsp_notify.specs.Owing.{is_news as has_news};
-ghost use Rattle.jsp_notify.specs.News.{hearing, untold, still_to_tell};
+//! What registrations are to be told: recorded with the decision, and told space by space, a row at
+//! a time.
+ghost use Rattle.std.specs.Prelude.{◌≡◌, ◌==◌, ◌<◌, ◌+◌, ◌^◌, ℕ, if◌then◌else◌, map, length, take, drop, OnOk, OnErr, IfOk};
+ghost use Rattle.std.specs.List.{list_any, list_all};
+ghost use Rattle.jsp_table.specs.Counts.{count_of as counted};
+ghost use Rattle.jsp_notify.specs.Owing.{is_news as has_news, owed as with_owed};
+ghost use Rattle.jsp_notify.specs.News.{hearing, is_told, numbers_untold, owed_in, told_next, untold};
+ghost use Rattle.jsp_model.specs.declared.state.Registration.{Registration as OfRegistration};
 
 use crate::heard::Heard;
-use crate::owing::{is_news, owe_each};
+use crate::owing::{is_news, owe};
 use jsp_model::{Registration, Row};
+use jsp_table::{Counts, count_of, count_one_more, make_room_for_count};
 use jsp_types::{Classes, Items, NoMemory};
+use std::alloc::Global;
+use std::collections::HashMap;
 
-/// The rows that a commit published, with the classes that were declared then. So many of them are told.
+/// The rows that a commit or a batch of writes brought, with the classes that were declared then. The
+/// registrations of a space are told so many of them.
 #[derive(Drop)]
 pub(crate) struct News {
     classes: Classes,
+    caller: Option<u64>,
     rows: Items<Row>,
-    told: usize,
+    told: Counts,
 }
 
 impl News {
-    /// The rows, of which none is told.
-    pub(crate) fn of(classes: &Classes, rows: Items<Row>) -> Result<Self, NoMemory>
-        ensures { IfOk result (λ n. n ≡ (record { classes = classes.now; rows = rows; told = 0 })) }
+    /// The rows that a caller wrote, of which none is told.
+    pub(crate) fn of(
+        alloc: Global,
+        classes: &Classes,
+        caller: Option<u64>,
+        rows: Items<Row>,
+    ) -> Result<Self, NoMemory>
+        ensures classes { IfOk result (λ n. n.classes ≡ classes.now) }
+        ensures caller { IfOk result (λ n. n.caller ≡ caller) }
+        ensures rows { IfOk result (λ n. n.rows ≡ rows) }
+        ensures untold { IfOk result (λ n. (space : ℕ) → counted n.told space ≡ 0) }
     {
         Ok(News {
             classes: classes.clone()?,
+            caller,
             rows,
-            told: 0,
+            told: HashMap::new(alloc),
         })
     }
 
-    /// The rows that aren't told.
-    fn untold(&self) -> &[Row]
-        ensures { result.now ≡ untold self.now }
+    /// The rows that the registrations of a space haven't been told of.
+    fn untold(&self, space: u64) -> &[Row]
+        ensures { result.now ≡ untold self.now space }
     {
         let rows = self.rows.as_slice();
-        &rows[self.told.min(rows.len())..]
+        &rows[count_of(&self.told, space).min(rows.len())..]
     }
 
-    /// Whether each row is told.
-    fn is_told(&self) -> bool
-        ensures { result ≡ nat_le (length self.now.rows) self.now.told }
+    /// Whether the registrations of a space are told each row.
+    pub(crate) fn is_told(&self, space: u64) -> bool
+        ensures { result ≡ is_told space self.now }
     {
-        self.rows.as_slice().len() <= self.told
+        self.rows.as_slice().len() <= count_of(&self.told, space)
     }
 
-    /// Whether a row that isn't told is news to the registration.
+    /// Whether those of each space are that has a row.
+    pub(crate) fn is_told_everywhere(&self) -> bool
+        ensures { result ≡ list_all (λ row. is_told row.space self.now) self.now.rows }
+    {
+        let rows = self.rows.as_slice();
+        rows.iter().all(|row| self.is_told(row.space))
+    }
+
+    /// Whether a row that it hasn't been told of is news to the registration.
     pub(crate) fn is_for(&self, registration: &Registration) -> bool
-        ensures { result ≡ list_any (has_news self.now.classes None registration.now) (untold self.now) }
+        ensures { result ≡ list_any (has_news self.now.classes self.now.caller registration.now) (untold self.now registration.now.space) }
     {
-        let rows = self.untold();
-        rows.iter()
-            .any(|row| is_news(&self.classes, None, registration, row))
+        let rows = self.untold(registration.space);
+        rows.iter().any(|row| is_news(&self.classes, self.caller, registration, row))
     }
 
-    /// Each copy is owed the rows that aren't told and are news to it.
-    pub(crate) fn tell_copies(&self, copies: &mut [Registration]) -> Result<(), NoMemory>
-        ensures { OnOk result (copies.new ≡ map (hearing (self.now ∷ [])) copies.old) }
+    /// The registration is owed the rows that it hasn't been told of and that are news to it.
+    pub(crate) fn tell_copy(&self, registration: &mut Registration) -> Result<(), NoMemory>
+        ensures { OnOk result (registration.new ≡ with_owed self.now.classes self.now.caller (untold self.now registration.old.space) registration.old) }
     {
-        owe_each(&self.classes, copies, self.untold(), None)
+        let rows = self.untold(registration.space);
+        owe(&self.classes, registration, rows, self.caller)
     }
 
-    /// Tells the next row.
-    fn tell_next(&mut self, heard: &mut Heard) -> Result<(), NoMemory>
-        requires { self.old.told < length self.old.rows }
-        ensures same { map (hearing (self.new ∷ [])) heard.new ≡ map (hearing (self.old ∷ [])) heard.old }
-        ensures fewer { OnOk result (still_to_tell (self.new ∷ []) < still_to_tell (self.old ∷ [])) }
+    /// Tells the registrations of a space the next row.
+    pub(crate) fn tell_next(&mut self, heard: &mut Heard, space: u64) -> Result<(), NoMemory>
+        requires { counted self.old.told space < length self.old.rows }
+        ensures rest { self.new ≡ record self.old { told = self.new.told } }
+        ensures told { OnOk result (heard.new ≡ map (told_next self.old space) heard.old) }
+        ensures one_more { OnOk result ((k : ℕ) → counted self.new.told k ≡ (if k == space then counted self.old.told k + 1 else counted self.old.told k)) }
+        ensures stays { OnErr result (heard.new ≡ heard.old) }
+        ensures no_more { OnErr result ((k : ℕ) → counted self.new.told k ≡ counted self.old.told k) }
     {
-        let next = self.told;
-        heard.owe_all(&self.classes, &self.rows.as_slice()[next..next + 1], None)?;
-        self.told = next + 1;
+        let next = count_of(&self.told, space);
+        make_room_for_count(&mut self.told, space)?;
+        self.owe_row(heard, space, next)?;
+        count_one_more(&mut self.told, space);
         Ok(())
     }
-}
 
-/// All is told, in the order of the commits and of their rows.
-///
-/// # Errors
-///
-/// Where memory is refused the rest isn't told.
-pub(crate) fn tell_all(heard: &mut Heard, news: &mut Items<News>) -> Result<(), NoMemory>
-    ensures same { map (hearing news.new) heard.new ≡ map (hearing news.old) heard.old }
-    ensures all { OnOk result (news.new ≡ []) }
-{
-    'news: while !news.as_slice().is_empty() {
-        tell_some(heard, news)?;
+    /// The registrations of a space are owed this row, where it is there.
+    fn owe_row(&self, heard: &mut Heard, space: u64, place: usize) -> Result<(), NoMemory>
+        requires { place < length self.now.rows }
+        ensures ok { OnOk result (heard.new ≡ map (owed_in self.now (take 1 (drop place self.now.rows)) space) heard.old) }
+        ensures err { OnErr result (heard.new ≡ heard.old) }
+        ensures fits { length self.now.rows < 2 ^ 63 }
+    {
+        let rows = self.rows.as_slice();
+        if rows[place].space != space {
+            return Ok(());
+        }
+        heard.owe_all(&self.classes, &rows[place..place + 1], self.caller)?;
+        Ok(())
     }
-    Ok(())
-}
-
-/// Tells the next row, or drops a commit whose rows are told.
-fn tell_some(heard: &mut Heard, news: &mut Items<News>) -> Result<(), NoMemory>
-    requires { 0 < length news.old }
-    ensures same { map (hearing news.new) heard.new ≡ map (hearing news.old) heard.old }
-    ensures fewer { OnOk result (still_to_tell news.new < still_to_tell news.old) }
-{
-    if news.as_slice()[0].is_told() {
-        let _told = news.items.remove(0);
-        return Ok(());
-    }
-    news.items[0].tell_next(heard)
 }

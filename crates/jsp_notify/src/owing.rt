@@ -54,7 +54,8 @@ fn forgive_first(
     }
 }
 
-fn owe(
+/// The registration is owed those of the rows, written by the caller, that are news to it.
+pub(crate) fn owe(
     classes: &Classes,
     registration: &mut Registration,
     rows: &[Row],

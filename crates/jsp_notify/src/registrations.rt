@@ -1,41 +1,46 @@
 //! The registrations. Contracts see them as a list, in the order in which they were made.
-ghost use Rattle.std.specs.Prelude.{◌≡◌, ◌==◌, ◌&&◌, ◌||◌, ◌++◌, ◌∷◌, ◌^◌, ◌+◌, ℕ, List, [], None, false, not, nat_le, nat_lt, map, filter, find, length, option_copied, option_map, IfOk, OnOk, OnErr, IsTrue};
+ghost use Rattle.std.specs.Prelude.{◌≡◌, ◌==◌, ◌&&◌, ◌||◌, ◌++◌, ◌∷◌, ◌^◌, ◌+◌, ℕ, List, [], None, false, not, nat_le, nat_lt, map, filter, find, length, option_copied, option_map, IfOk, OnOk, OnErr, IfSome, IfNone, true, IsTrue};
 ghost use Rattle.std.specs.List.{list_any, list_all};
+ghost use Rattle.std.specs.Borrow.{LendsIfOk, sem};
 ghost use Rattle.std.specs.Option.{option_map_or};
 ghost use Rattle.jsp_lease.specs.Due.{first_item, over_by};
 ghost use Rattle.jsp_model.specs.declared.state.Registration.{Registration as OfRegistration};
 ghost use Rattle.jsp_model.specs.Lookup.{update, is_caller as calls};
-ghost use Rattle.jsp_notify.specs.News.{hearing, untold, without_owed};
+ghost use Rattle.jsp_table.specs.Counts.{count_of};
+ghost use Rattle.jsp_notify.specs.Hearing.{all_of, have_heard};
+ghost use Rattle.jsp_notify.specs.contracts.listeners.Listeners.{the_row as listeners_row};
+ghost use Rattle.jsp_notify.specs.contracts.registrations.Registrations.{the_row};
+ghost use Rattle.jsp_notify.specs.News.{hearing, without_owed};
 ghost use Rattle.jsp_notify.specs.Owing.{owed as with_owed};
 ghost use Rattle.jsp_notify.specs.Registered.{registration_end, registration_ending, told_once};
 
-use crate::asking::{OwedAfter, is_owed_after};
+use crate::asking::{OfSession, OwedAfter, is_owed_after};
 use crate::heard::Heard;
-use crate::news::{News, tell_all};
+use crate::listeners::Listeners;
+use crate::news::News;
+use crate::untold::{is_all_told, tell_all_in, tell_before, tell_some, tell_spaces_of};
 use jsp_model::{Item, Registration, Row};
 use jsp_table::Test;
 use jsp_types::{Classes, Items, NoMemory};
 use std::alloc::Global;
 use std::marker::Model;
-use std::mem;
 
-/// The registrations. What a commit tells them is recorded with it, and told before anything else is: each is
-/// owed in the order of what is done. Contracts see each with all that it is owed.
+/// The registrations. What a commit tells them is recorded with it, and told space by space before
+/// anything else is told there: each is owed in the order of what is done. Contracts see each with
+/// all that it is owed.
 #[derive(Drop)]
 pub struct Registrations {
-    alloc: Global,
-    heard: Heard,
-    news: Items<News>,
+    listeners: Listeners,
 }
 
 impl Model for Registrations {
-    ghost use Rattle.std.specs.Prelude.{List, map};
+    ghost use Rattle.std.specs.Prelude.{List};
     ghost use Rattle.jsp_model.specs.declared.state.Registration.{Registration};
-    ghost use Rattle.jsp_notify.specs.News.{hearing};
+    ghost use Rattle.jsp_notify.specs.Hearing.{all_of};
 
     ghost Value = { List Registration };
 
-    ghost view = { λ a. map (hearing a.news) a.heard };
+    ghost view = { λ a. all_of a.listeners };
 }
 
 impl Registrations {
@@ -46,8 +51,8 @@ impl Registrations {
         Registrations::with(alloc, Heard::scanned(alloc, registrations))
     }
 
-    /// No registrations; they will be found by hints. The keys come from the seed, which clients aren't
-    /// to know.
+    /// No registrations; they will be found by hints. The keys come from the seed, which clients
+    /// aren't to know.
     pub fn new(alloc: Global, seed: u64) -> Self
         ensures { result ≡ [] }
     {
@@ -70,30 +75,31 @@ impl Registrations {
     fn with(alloc: Global, heard: Heard) -> Self
         ensures { result ≡ heard }
     {
-        Registrations {
+        let listeners = Listeners {
             alloc,
             heard,
             news: Items::new(alloc),
-        }
+        };
+        Registrations { listeners }
     }
 
     /// A plain copy of these registrations.
     pub fn to_items(&self) -> Result<Items<Registration>, NoMemory>
         ensures { IfOk result (λ c. c ≡ self.now) }
     {
-        let mut copies = self.heard.to_items()?;
-        tell_copies(&mut copies.items, self.news.as_slice())?;
+        let mut copies = self.listeners.heard.to_items()?;
+        tell_copies(&mut copies.items, self.listeners.news.as_slice())?;
         Ok(copies)
     }
 
     // ---- what a commit tells
 
-    /// Each registration is owed those of the rows, which a commit publishes, that are news to it, in their
-    /// order and after all that it is owed: in its space, and as its template matches. That is recorded, in
-    /// the time that a copy of the classes takes, and told later.
+    /// Each registration is owed those of the rows, which a commit publishes, that are news to it,
+    /// in their order and after all that it is owed: in its space, and as its template matches.
+    /// That is recorded, in the time that a copy of the classes takes, and told later.
     ///
-    /// An event is told for each entry that becomes visible (JavaSpaces notify). That one is told for
-    /// each row, in the order of the rows, is this profile's own.
+    /// An event is told for each entry that becomes visible (JavaSpaces notify). That one is told
+    /// for each row, in the order of the rows, is this profile's own.
     ///
     /// # Errors
     ///
@@ -105,64 +111,61 @@ impl Registrations {
         if published.as_slice().is_empty() {
             return Ok(());
         }
-        let news = News::of(classes, published)?;
+        let news = News::of(self.listeners.alloc, classes, None, published)?;
         self.record_news(news)
     }
 
     fn record_news(&mut self, news: News) -> Result<(), NoMemory>
-        ensures ok { OnOk result (self.new ≡ map (with_owed news.classes None (untold news)) self.old) }
+        requires { (space : ℕ) → count_of news.told space ≡ 0 }
+        ensures ok { OnOk result (self.new ≡ map (with_owed news.classes news.caller news.rows) self.old) }
         ensures err { OnErr result (self.new ≡ self.old) }
     {
-        self.news.push(news)?;
+        self.listeners.news.push(news)?;
         Ok(())
     }
 
     /// Whether anything that commits tell isn't told yet.
     pub fn has_news(&self) -> bool {
-        !self.news.as_slice().is_empty()
+        !self.listeners.news.as_slice().is_empty()
     }
 
-    /// What commits tell is told, as far as there is memory for it.
-    pub fn hear(&mut self)
+    /// The registrations of a space are told some of what commits tell them, so that one of them is
+    /// owed an event if any has one to come, as far as there is memory for it. Nothing where one
+    /// is.
+    pub fn hear_in(&mut self, space: u64)
         ensures { self.new ≡ self.old }
     {
-        // What finds no memory stays recorded.
-        let _told = tell_all(&mut self.heard, &mut self.news);
+        tell_some(&mut self.listeners.heard, &mut self.listeners.news, space);
     }
 
-    /// Takes the registrations out, each with all that it is owed, so that they can be owed more; `put_back`
-    /// puts them back. None is here meanwhile.
+    /// The registrations, to be owed these rows. Those of the rows' spaces have heard all that
+    /// commits tell.
     ///
     /// # Errors
     ///
-    /// Where memory is refused they stay.
-    pub fn take_heard(&mut self) -> Result<Heard, NoMemory>
-        ensures ok { IfOk result (λ heard. (heard ≡ self.old) × (self.new ≡ [])) }
-        ensures err { OnErr result (self.new ≡ self.old) }
+    /// Where memory is refused for what commits told before.
+    pub fn listeners_for(&mut self, rows: &[Row]) -> Result<&mut Listeners, NoMemory>
+        ensures* lends { sem 𝓛 (LendsIfOk the_row listeners_row self.entry result all_of self.old) }
+        ensures all { IfOk result (λ listeners. all_of listeners.now ≡ self.old) }
+        ensures heard { IfOk result (λ listeners. have_heard listeners.now rows.now ≡ true) }
     {
-        tell_all(&mut self.heard, &mut self.news)?;
-        let none = Heard::scanned(self.alloc, Items::new(self.alloc));
-        Ok(mem::replace(&mut self.heard, none))
-    }
-
-    /// These are the registrations, in place of those that are here.
-    #[tactic(auto, using(crate::proofs::Hearing::all_heard))]
-    pub fn put_back(&mut self, heard: Heard)
-        ensures { self.new ≡ heard }
-    {
-        self.heard = heard;
-        self.news = Items::new(self.alloc);
+        tell_spaces_of(&mut self.listeners.heard, &mut self.listeners.news, rows)?;
+        Ok(&mut self.listeners)
     }
 
     // ---- add
 
-    /// Adds a registration at the end, whole or not at all. It hears nothing of what commits told before.
+    /// Adds a registration at the end, whole or not at all. It hears nothing of what commits told
+    /// before.
     pub fn push(&mut self, registration: Registration) -> Result<(), NoMemory>
         ensures ok { OnOk result (self.new ≡ self.old ++ registration ∷ []) }
         ensures err { OnErr result (self.new ≡ self.old) }
     {
-        tell_all(&mut self.heard, &mut self.news)?; // so that it hears nothing of it
-        self.heard.push(registration)
+        // So that it hears nothing of it.
+        let space = registration.space;
+        tell_all_in(&mut self.listeners.heard, &mut self.listeners.news, space)?;
+        self.listeners.heard.push(registration)?;
+        Ok(())
     }
 
     // ---- leave out. Nothing here takes memory.
@@ -171,34 +174,34 @@ impl Registrations {
     pub fn remove(&mut self, number: u64)
         ensures { self.new ≡ filter (λ r. not (r.number == number)) self.old }
     {
-        self.heard.remove(number);
+        self.listeners.heard.remove(number);
     }
 
     /// The registrations of a session go.
     pub fn remove_of(&mut self, session: u64)
         ensures { self.new ≡ filter (λ r. not (r.session == session)) self.old }
     {
-        self.heard.remove_of(session);
+        self.listeners.heard.remove_of(session);
     }
 
     /// The registrations under a transaction go.
     pub fn remove_under(&mut self, x: u64)
         ensures { self.new ≡ filter (λ r. not (calls r.transaction x)) self.old }
     {
-        self.heard.remove_under(x);
+        self.listeners.heard.remove_under(x);
     }
 
     /// The registrations at a space go.
     pub fn clear(&mut self, space: u64)
         ensures { self.new ≡ filter (λ r. not (r.space == space)) self.old }
     {
-        self.heard.clear(space);
+        self.listeners.heard.clear(space);
     }
 
     // ---- change in place
 
-    /// The next event of a registration is told: it is owed one less, and its sequence number rises by
-    /// one.
+    /// The next event of a registration is told: it is owed one less, and its sequence number rises
+    /// by one.
     ///
     /// # Errors
     ///
@@ -208,8 +211,13 @@ impl Registrations {
         ensures ok { OnOk result (self.new ≡ update (λ r. r.number == number) told_once self.old) }
         ensures err { OnErr result (self.new ≡ self.old) }
     {
-        tell_all(&mut self.heard, &mut self.news)?;
-        self.heard.tell(number);
+        tell_before(
+            self.listeners.alloc,
+            &mut self.listeners.heard,
+            &mut self.listeners.news,
+            number,
+        )?;
+        self.listeners.heard.tell(number);
         Ok(())
     }
 
@@ -217,7 +225,7 @@ impl Registrations {
     pub fn extend(&mut self, number: u64, end: u64)
         ensures { self.new ≡ map (registration_ending number end) self.old }
     {
-        self.heard.extend(number, end);
+        self.listeners.heard.extend(number, end);
     }
 
     // ---- find. Nothing here takes memory but what answers in a list.
@@ -226,35 +234,45 @@ impl Registrations {
     pub fn is_empty(&self) -> bool
         ensures { result ≡ (length self.now == 0) }
     {
-        self.heard.is_empty()
+        self.listeners.heard.is_empty()
     }
 
     /// Whether there are so many.
     pub fn has_at_least(&self, count: usize) -> bool
         ensures { result ≡ nat_le count (length self.now) }
     {
-        self.heard.has_at_least(count)
+        self.listeners.heard.has_at_least(count)
     }
 
     /// How many there are at a space.
     pub fn count_in(&self, space: u64) -> usize
         ensures { result ≡ length (filter (λ r. r.space == space) self.now) }
     {
-        self.heard.count_in(space)
+        self.listeners.heard.count_in(space)
+    }
+
+    /// Whether a session has one.
+    pub fn has_any_of(&self, session: u64) -> bool
+        ensures { result ≡ list_any (λ r. r.session == session) self.now }
+    {
+        self.listeners
+            .heard
+            .first_number(&OfSession { session })
+            .is_some()
     }
 
     /// The registration of this number, but for what it is owed.
     pub fn get(&self, number: u64) -> Option<&Registration>
         ensures { option_map without_owed (option_copied result) ≡ option_map without_owed (find (λ r. r.number == number) self.now) }
     {
-        self.heard.get(number)
+        self.listeners.heard.get(number)
     }
 
     /// Whether a registration has this number.
     pub fn has(&self, number: u64) -> bool
         ensures { result ≡ list_any (λ r. r.number == number) self.now }
     {
-        self.heard.has(number)
+        self.listeners.heard.has(number)
     }
 
     /// Whether a registration of this number passes a test, which doesn't ask what it is owed.
@@ -262,16 +280,16 @@ impl Registrations {
         requires { (owed : List ℕ) (r : OfRegistration) → P.is_passed test.now (record r { owed = owed }) ≡ P.is_passed test.now r }
         ensures { result ≡ list_any (λ r. r.number == number && P.is_passed test.now r) self.now }
     {
-        self.heard.any_of(number, test)
+        self.listeners.heard.any_of(number, test)
     }
 
     /// Whether the registration of this number is owed an event.
     pub fn is_owed(&self, number: u64) -> bool
         ensures { result ≡ option_map_or (λ r. nat_lt 0 (length r.owed)) (find (λ r. r.number == number) self.now) false }
     {
-        match self.heard.get(number) {
+        match self.listeners.heard.get(number) {
             None => false,
-            Some(registration) => is_owed_after(self.news.as_slice(), registration),
+            Some(registration) => is_owed_after(self.listeners.news.as_slice(), registration),
         }
     }
 
@@ -279,36 +297,51 @@ impl Registrations {
     pub fn none_is_owed(&self, space: u64) -> bool
         ensures { result ≡ list_all (λ r. not (r.space == space) || length r.owed == 0) self.now }
     {
-        self.first_owed(space).is_none()
+        self.next_owed(space).is_none()
     }
 
-    /// The number of the first registration of the space that is owed an event. While anything that commits
-    /// tell isn't told yet, all registrations of the space are looked at.
-    pub fn first_owed(&self, space: u64) -> Option<u64>
-        ensures { result ≡ option_map (λ (r : OfRegistration). r.number) (find (λ r. r.space == space && not (length r.owed == 0)) self.now) }
+    /// The number of a registration of the space that is owed an event: the first of those that
+    /// have heard of theirs. Only where none of them has, and the space hasn't heard all, all of
+    /// them are looked at.
+    pub fn next_owed(&self, space: u64) -> Option<u64>
+        ensures some { IfSome result (λ n. list_any (λ r. r.number == n && (r.space == space && not (length r.owed == 0))) self.now ≡ true) }
+        ensures none { IfNone result (list_all (λ r. not (r.space == space) || length r.owed == 0) self.now ≡ true) }
     {
-        let news = self.news.as_slice();
-        if !news.is_empty() {
-            return self.heard.first_number(&OwedAfter { news, space });
+        let found = first_owed(&self.listeners.heard, space);
+        if found.is_some() {
+            return found;
         }
-        match self.heard.first_owed(space) {
-            None => None,
-            Some(registration) => Some(registration.number),
+        let news = self.listeners.news.as_slice();
+        if is_all_told(news, space) {
+            return None;
         }
+        self.listeners
+            .heard
+            .first_number(&OwedAfter { news, space })
     }
 
     /// The registration whose end has come and comes first, as an item.
     pub fn due(&self, time: u64) -> Option<Item>
         ensures { result ≡ first_item (over_by time (map registration_end self.now)) }
     {
-        self.heard.due(time)
+        self.listeners.heard.due(time)
     }
 
     /// The spaces of the registrations of this number.
     pub fn spaces_of(&self, alloc: Global, number: u64) -> Result<Vec<u64>, NoMemory>
         ensures { IfOk result (λ v. v.items ≡ map (λ r. r.space) (filter (λ r. r.number == number) self.now)) }
     {
-        self.heard.spaces_of(alloc, number)
+        self.listeners.heard.spaces_of(alloc, number)
+    }
+}
+
+/// The number of the first registration of the space that is owed an event.
+fn first_owed(heard: &Heard, space: u64) -> Option<u64>
+    ensures { result ≡ option_map (λ (r : OfRegistration). r.number) (find (λ r. r.space == space && not (length r.owed == 0)) heard.now) }
+{
+    match heard.first_owed(space) {
+        None => None,
+        Some(registration) => Some(registration.number),
     }
 }
 
@@ -316,8 +349,17 @@ impl Registrations {
 fn tell_copies(copies: &mut [Registration], news: &[News]) -> Result<(), NoMemory>
     ensures { OnOk result (copies.new ≡ map (hearing news.now) copies.old) }
 {
+    'copies: for place in 0..copies.len() {
+        tell_copy(&mut copies[place], news)?;
+    }
+    Ok(())
+}
+
+fn tell_copy(copy: &mut Registration, news: &[News]) -> Result<(), NoMemory>
+    ensures { OnOk result (copy.new ≡ hearing news.now copy.old) }
+{
     'news: for one in news {
-        one.tell_copies(copies)?;
+        one.tell_copy(copy)?;
     }
     Ok(())
 }

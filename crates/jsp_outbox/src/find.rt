@@ -46,6 +46,19 @@ pub(crate) fn waiting(queues: &[Queue], session: u64) -> u64
     }
 }
 
+/// About how many bytes of memory the answers take that wait for the session.
+pub(crate) fn weight(queues: &[Queue], session: u64) -> u64
+    requires { IsTrue (are_outboxes queues.now) }
+{
+    let Some(place) = place_of(queues, session) else {
+        return 0;
+    };
+    match queues.get(place) {
+        None => 0,
+        Some(queue) => queue.weight(),
+    }
+}
+
 /// The least session above this number that has an outbox.
 pub(crate) fn next_after(queues: &[Queue], session: u64) -> Option<u64>
     requires { IsTrue (are_outboxes queues.now) }

@@ -6,7 +6,8 @@
 //! found by binary search. So to hand out answers costs what is handed out, however many wait.
 //!
 //! `next_told` names the sessions that were told something lately, so that who is to be woken is found
-//! without a look at all who have answers waiting. That it leaves none out is tested, not proved.
+//! without a look at all who have answers waiting. That it leaves none out is tested, not proved, and
+//! so is `weight`, about how much memory takes what waits for a session.
 //!
 //! Posting is whole or not at all and answers where it was, by which it is taken back. Only posting,
 //! handing out a part of an outbox, and copies take memory.
@@ -19,6 +20,7 @@ mod outboxes;
 mod post;
 mod queue;
 mod told;
+mod weight;
 
 pub use outboxes::Outboxes;
 pub use post::Posted;

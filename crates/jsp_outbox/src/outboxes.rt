@@ -166,6 +166,11 @@ impl Outboxes {
         find::waiting(self.queues.as_slice(), session)
     }
 
+    /// About how many bytes of memory the answers take that wait for the session. No clause says it.
+    pub fn weight(&self, session: u64) -> u64 {
+        find::weight(self.queues.as_slice(), session)
+    }
+
     /// The least session above this number that has an outbox.
     pub fn next_after(&self, session: u64) -> Option<u64>
         ensures { result ≡ option_map (λ b. b.session) (find (λ b. nat_lt session b.session) self.now) }

@@ -2,6 +2,7 @@
 ghost use Rattle.std.specs.Prelude.{◌≡◌, ◌≤◌, ◌++◌, [], ◌∷◌, length, take, drop, IfOk, OnOk, OnErr};
 ghost use Rattle.jsp_outbox.specs.Outboxes.{with_answer, without_last, later_answers};
 
+use crate::weight::{weight_of, weight_of_all, weight_of_some};
 use jsp_model::Outbox;
 use jsp_reply::Said;
 use jsp_types::{Items, NoMemory};
@@ -14,6 +15,8 @@ use std::marker::Model;
 pub(crate) struct Queue {
     session: u64,
     answers: VecDeque<Said>,
+    /// About how many bytes of memory they take.
+    weight: u64,
 }
 
 impl Model for Queue {
@@ -29,9 +32,14 @@ impl Queue {
     pub(crate) fn open(alloc: Global, session: u64, said: Said) -> Result<Queue, NoMemory>
         ensures { IfOk result (λ q. q ≡ record { session = session; answers = said ∷ [] }) }
     {
+        let weight = weight_of(&said);
         let mut answers = VecDeque::new(alloc);
         answers.push_back(said)?;
-        Ok(Queue { session, answers })
+        Ok(Queue {
+            session,
+            answers,
+            weight,
+        })
     }
 
     /// The queue of an outbox. Takes no memory.
@@ -39,9 +47,12 @@ impl Queue {
         ensures { result ≡ outbox }
     {
         let Outbox { session, answers } = outbox;
+        let answers = answers.into_vec();
+        let weight = weight_of_all(answers.as_slice());
         Queue {
             session,
-            answers: VecDeque::from_vec(answers.into_vec()),
+            answers: VecDeque::from_vec(answers),
+            weight,
         }
     }
 
@@ -72,12 +83,19 @@ impl Queue {
         self.answers.len()
     }
 
+    /// About how many bytes of memory they take.
+    pub(crate) fn weight(&self) -> u64 {
+        self.weight
+    }
+
     /// Adds an answer at the end, whole or not at all.
     pub(crate) fn push(&mut self, said: Said) -> Result<(), NoMemory>
         ensures ok { OnOk result (self.new ≡ with_answer self.old said) }
         ensures err { OnErr result (self.new ≡ self.old) }
     {
+        let weight = weight_of(&said);
         self.answers.push_back(said)?;
+        self.weight = self.weight.saturating_add(weight);
         Ok(())
     }
 
@@ -85,7 +103,8 @@ impl Queue {
     pub(crate) fn pop(&mut self)
         ensures { self.new ≡ without_last self.old }
     {
-        let _said = self.answers.pop_back();
+        let said = self.answers.pop_back();
+        self.weight = self.weight.saturating_sub(weight_of_some(&said));
     }
 
     /// Takes so many answers from the front, whole or not at all.
@@ -94,7 +113,10 @@ impl Queue {
         ensures ok { IfOk result (λ v. (v.items ≡ take count self.old.answers) × (self.new ≡ later_answers self.old count)) }
         ensures err { OnErr result (self.new ≡ self.old) }
     {
-        take_front(alloc, &mut self.answers, count)
+        let taken = take_front(alloc, &mut self.answers, count)?;
+        let weight = weight_of_all(taken.as_slice());
+        self.weight = self.weight.saturating_sub(weight);
+        Ok(taken)
     }
 
     /// All answers.
@@ -104,6 +126,7 @@ impl Queue {
         let Queue {
             session: _,
             answers,
+            weight: _,
         } = self;
         answers.into_vec()
     }

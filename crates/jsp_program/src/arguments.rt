@@ -61,6 +61,14 @@ pub(crate) const MOST_BACKLOG: u64 = 1 << 32;
 
 pub(crate) const USUAL_BACKLOG: u64 = 65_536;
 
+/// The id of how much memory they may take.
+pub(crate) const BACKLOG_BYTES: &str = "backlog-bytes";
+
+/// The most bytes of memory that they may take, a tebibyte, and how many where it isn't told, 16 MiB.
+pub(crate) const MOST_BACKLOG_BYTES: u64 = 1 << 40;
+
+pub(crate) const USUAL_BACKLOG_BYTES: u64 = 1 << 24;
+
 /// The most connections at once, and how many they are where it isn't told.
 pub(crate) const MOST_CONNECTIONS: u64 = 4096;
 
@@ -114,17 +122,12 @@ fn listen<'a>(alloc: Global) -> Result<Command<'a>, AllocError> {
         .value_name("N")
         .help("Ends when so many connections have ended [default: 1000000000]")
         .value_parser(ValueParser::unsigned(1, MOST_LINES));
-    let era = Arg::new(alloc, ERA)
-        .long(ERA)
-        .value_name("STEPS")
-        .help(
-            "How many steps of its history it keeps at most, some 300 bytes each [default: 131072]",
-        )
-        .value_parser(ValueParser::unsigned(1, LONGEST_ERA));
     let connections = Arg::new(alloc, CONNECTIONS)
         .long(CONNECTIONS)
         .value_name("N")
-        .help("How many connections it serves at once; one above them is closed [default: 256]")
+        .help(
+            "How many connections it serves at once; one more takes the place of a silent one, or is closed [default: 256]",
+        )
         .value_parser(ValueParser::unsigned(1, MOST_CONNECTIONS));
     let idle = Arg::new(alloc, IDLE)
         .long(IDLE)
@@ -135,6 +138,35 @@ fn listen<'a>(alloc: Global) -> Result<Command<'a>, AllocError> {
         .long(UNTIL_INPUT)
         .help("Ends in order once standard input has a line or ends")
         .action(ArgAction::SetTrue);
+    let status = Arg::new(alloc, STATUS).long(STATUS).value_name("ADDR").help(
+        "Shows its status there to a browser, and as JSON at /status.json [default: nowhere]",
+    );
+    let address = Arg::new(alloc, ADDRESS)
+        .help(
+            "Where to listen, as 127.0.0.1:7070; port 0 takes a free one. Whoever reaches it may do everything",
+        )
+        .required(true);
+    let command = Command::new(alloc, LISTEN)
+        .about("Serves clients over TCP, and says where once it listens")
+        .arg(lines)?
+        .arg(connections)?
+        .arg(idle)?;
+    keeping(alloc, command)?
+        .arg(until_input)?
+        .arg(status)?
+        .arg(address)?
+        .arg(names(alloc))
+}
+
+/// The command with the options that say how much it keeps at most.
+fn keeping<'a>(alloc: Global, command: Command<'a>) -> Result<Command<'a>, AllocError> {
+    let era = Arg::new(alloc, ERA)
+        .long(ERA)
+        .value_name("STEPS")
+        .help(
+            "How many steps of its history it keeps at most, some 300 bytes each [default: 131072]",
+        )
+        .value_parser(ValueParser::unsigned(1, LONGEST_ERA));
     let era_bytes = Arg::new(alloc, ERA_BYTES)
         .long(ERA_BYTES)
         .value_name("BYTES")
@@ -145,26 +177,16 @@ fn listen<'a>(alloc: Global) -> Result<Command<'a>, AllocError> {
         .value_name("N")
         .help("Closes a connection for which more answers and events wait, unread [default: 65536]")
         .value_parser(ValueParser::unsigned(1, MOST_BACKLOG));
-    let status = Arg::new(alloc, STATUS).long(STATUS).value_name("ADDR").help(
-        "Shows its status there to a browser, and as JSON at /status.json [default: nowhere]",
-    );
-    let address = Arg::new(alloc, ADDRESS)
-        .help(
-            "Where to listen, as 127.0.0.1:7070; port 0 takes a free one. Whoever reaches it may do everything",
-        )
-        .required(true);
-    Command::new(alloc, LISTEN)
-        .about("Serves clients over TCP, and says where once it listens")
-        .arg(lines)?
-        .arg(connections)?
-        .arg(idle)?
+    let backlog_bytes = Arg::new(alloc, BACKLOG_BYTES)
+        .long(BACKLOG_BYTES)
+        .value_name("BYTES")
+        .help("The same where these take more memory, about [default: 16777216]")
+        .value_parser(ValueParser::unsigned(1, MOST_BACKLOG_BYTES));
+    command
         .arg(era)?
         .arg(era_bytes)?
         .arg(backlog)?
-        .arg(until_input)?
-        .arg(status)?
-        .arg(address)?
-        .arg(names(alloc))
+        .arg(backlog_bytes)
 }
 
 fn client<'a>(alloc: Global) -> Result<Command<'a>, AllocError> {

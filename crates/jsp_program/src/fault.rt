@@ -41,8 +41,8 @@ pub(crate) enum Fault {
 }
 
 impl Fault {
-    /// The status that the program ends with: 2 where the arguments or the standard streams can't be used, 3
-    /// where a history differs, and else 1.
+    /// The status that the program ends with: 2 where the arguments or the standard streams can't
+    /// be used, 3 where a history differs, and else 1.
     pub(crate) fn status(&self) -> ExitCode {
         ExitCode::from(match self {
             Fault::Arguments | Fault::BadName(_) | Fault::Standard(_) => 2,

@@ -2,8 +2,9 @@
 ghost use Rattle.std.specs.Prelude.{◌≤◌};
 
 use crate::arguments::{
-    ADDRESS, BACKLOG, CONNECTIONS, ERA, ERA_BYTES, IDLE, LINES, LONGEST_ERA, MOST_LINES, STATUS,
-    UNTIL_INPUT, USUAL_BACKLOG, USUAL_CONNECTIONS, USUAL_ERA, USUAL_ERA_BYTES, VERSION,
+    ADDRESS, BACKLOG, BACKLOG_BYTES, CONNECTIONS, ERA, ERA_BYTES, IDLE, LINES, LONGEST_ERA,
+    MOST_LINES, STATUS, UNTIL_INPUT, USUAL_BACKLOG, USUAL_BACKLOG_BYTES, USUAL_CONNECTIONS,
+    USUAL_ERA, USUAL_ERA_BYTES, VERSION,
 };
 use crate::fault::Fault;
 use crate::room::find_room;
@@ -55,7 +56,8 @@ pub(crate) struct Window {
 pub(crate) struct End {
     address: SocketAddr,
     stop: Arc<Stop>,
-    /// What keeps a descriptor for the connection that wakes the server, which may have none left by then.
+    /// What keeps a descriptor for the connection that wakes the server, which may have none left
+    /// by then.
     kept: File,
 }
 
@@ -113,8 +115,8 @@ impl Server {
         }
     }
 
-    /// Says where it listens, and serves. At its end it says on standard error what was compared. The status is 1 where
-    /// a line wasn't, for want of memory.
+    /// Says where it listens, and serves. At its end it says on standard error what was compared.
+    /// The status is 1 where a line wasn't, for want of memory.
     pub(crate) fn serve<
         R: AllocGlobal + Print + Eprint + Clock + Files<File = File> + Threads + Wait + Sync,
     >(self, rt: &R) -> Result<ExitCode, Fault> {
@@ -204,8 +206,9 @@ impl End {
         if TcpStream::connect(rt, address).is_ok() {
             return;
         }
-        // Where no descriptor is left, a server that asks for one again and again sees by itself that it is to stop, and
-        // would else take the one that is kept. One that waits for a connection has its own.
+        // Where no descriptor is left, a server that asks for one again and again sees by itself
+        // that it is to stop, and would else take the one that is kept. One that waits for a
+        // connection has its own.
         thread::sleep(rt, Duration::from_millis(4 * PAUSE));
         drop(kept);
         for _ in rt.forever() {
@@ -230,6 +233,7 @@ fn service(given: &ArgMatches<'_>, seeds: Seeds) -> Service
             era: number(ERA, USUAL_ERA).clamp(1, LONGEST_ERA),
             era_bytes: number(ERA_BYTES, USUAL_ERA_BYTES),
             backlog: number(BACKLOG, USUAL_BACKLOG),
+            backlog_bytes: number(BACKLOG_BYTES, USUAL_BACKLOG_BYTES),
         },
         seeds,
     }
@@ -272,8 +276,8 @@ fn is_compared(closed: &Closed) -> bool {
     }
 }
 
-/// Says what of the history was compared with what the lines read and wrote, and what wasn't, and to
-/// whom not all was written.
+/// Says what of the history was compared with what the lines read and wrote, and what wasn't, and
+/// to whom not all was written.
 fn say_compared(rt: &impl Eprint, closed: &Closed) -> io::Result<()> {
     match closed {
         Closed::Whole { lines, .. } => {

@@ -2,10 +2,11 @@
 //!
 //! `jsp script NAME..` runs the script on standard input over the spaces NAME.. and prints each
 //! answer; with `--audit` it replays the run first, and compares it with what was sent, and with
-//! `--scan` it looks at each entry in every search. `jsp listen ADDR NAME..` serves clients over TCP. Both end with
-//! status 0, also after help, with 2 where the arguments or the standard streams can't be used, with 3 where a server's history differs from
-//! what its lines read and wrote, and else with 1 after the first fault met, which is told on standard error.
-//! `jsp client ADDR` makes requests of a server, and ends with 1 where one was refused too.
+//! `--scan` it looks at each entry in every search. `jsp listen ADDR NAME..` serves clients over
+//! TCP. Both end with status 0, also after help, with 2 where the arguments or the standard streams
+//! can't be used, with 3 where a server's history differs from what its lines read and wrote, and
+//! else with 1 after the first fault met, which is told on standard error. `jsp client ADDR` makes
+//! requests of a server, and ends with 1 where one was refused too.
 #![tactic(auto)]
 
 mod arguments;

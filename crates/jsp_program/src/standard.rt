@@ -13,11 +13,11 @@ const LAST: i32 = 2;
 /// The error of Linux that says that a program has as many descriptors as it may have: `EMFILE`.
 const NONE_LEFT: i32 = 24;
 
-/// Opens the null device in the place of each of the three that is closed. A connection would have its
-/// number otherwise, and be read or written in its place.
+/// Opens the null device in the place of each of the three that is closed. A connection would have
+/// its number otherwise, and be read or written in its place.
 ///
-/// A file has the least number that is free. So where one has a number above the three, or no number is
-/// left, all three are open.
+/// A file has the least number that is free. So where one has a number above the three, or no
+/// number is left, all three are open.
 pub(crate) fn open_standard<R: Files<File = File>>(rt: &R) -> Result<(), Fault> {
     for _ in 0..=LAST {
         match open_null_device(rt) {

@@ -29,6 +29,7 @@ pub(crate) trait Calls: Drop {
     /// All answers that wait for the session.
     fn hand_out(&mut self, session: u64) -> Result<Vec<Said>, Stopped>;
 
-    /// Whether the steps so far are a run, as far as they can be seen. `None` where memory is wanting.
+    /// Whether the steps so far are a run, as far as they can be seen. `None` where memory is
+    /// wanting.
     fn is_run(&self) -> Option<bool>;
 }

@@ -1,13 +1,14 @@
-//! A program for tests alone: runs a script over a house, and makes each call again that is stopped for
-//! want of memory.
+//! A program for tests alone: runs a script over a house, and makes each call again that is stopped
+//! for want of memory.
 //!
 //!     jsp_retry hall|rows|kept
 //!
-//! reads a script of `jsp script`, but for `hex` lines, over the spaces a and b, and prints what that
-//! prints. A call whose own step wasn't made is made again; where it was made, what it left is finished.
-//! Whenever one is stopped, all steps so far are replayed. At the end it tells on standard error how many
-//! calls were stopped without their own step, and how many with it. It ends with status 1 where the steps
-//! are no run, or a line isn't understood, and with 2 where it couldn't begin.
+//! reads a script of `jsp script`, but for `hex` lines, over the spaces a and b, and prints what
+//! that prints. A call whose own step wasn't made is made again; where it was made, what it left is
+//! finished. Whenever one is stopped, all steps so far are replayed. At the end it tells on
+//! standard error how many calls were stopped without their own step, and how many with it. It ends
+//! with status 1 where the steps are no run, or a line isn't understood, and with 2 where it
+//! couldn't begin.
 #![tactic(auto)]
 
 mod bare;

@@ -120,7 +120,8 @@ impl<C: Calls> Runner<C> {
         Err(Fault::NoMemory)
     }
 
-    /// Fails where a call was stopped otherwise than for want of memory, or the steps so far are no run.
+    /// Fails where a call was stopped otherwise than for want of memory, or the steps so far are no
+    /// run.
     fn see(&self, stopped: Stopped) -> Result<(), Fault> {
         if stopped.why != Why::NoMemory {
             return Err(Fault::Otherwise);

@@ -107,6 +107,10 @@ impl Hangup for Connected {
     fn requests(&self) -> &AtomicU64 {
         &self.requests
     }
+
+    fn silent(&self) -> u64 {
+        0
+    }
 }
 
 impl<'w, 'a, T> Door<Incoming<'w, 'a, T>, Outgoing<'w, 'a, T>, Connected> for Lines<'w, 'a, T> {

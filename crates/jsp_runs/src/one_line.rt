@@ -31,8 +31,8 @@ const MANY: [Talk; 1] = [Talk {
     ..QUIET
 }];
 
-// Serves a line that may be read eight times. Answers how it ended, how often it was read, and how many of its requests
-// were acted.
+// Serves a line that may be read eight times. Answers how it ended, how often it was read, and how
+// many of its requests were acted.
 fn read_eight_times<
     A: Ledger + Send + Sync,
     O: Ledger + Send + Sync,
@@ -50,7 +50,7 @@ fn read_eight_times<
     let config = two_spaces(alloc)?;
     let house = RowsHouse::new(alloc, &config)?;
     let kept = Kept::<RowsHouse, A, O>::new(alloc, house, &config, ERA, asks, outs)?;
-    let floor = Floor::new(alloc, kept, 1, u64::MAX, u64::MAX)?;
+    let floor = Floor::new(alloc, kept, 1, u64::MAX, u64::MAX, u64::MAX)?;
     let dial = Dial { watch, noon: None };
     let shared = Shared {
         rt,
@@ -139,8 +139,8 @@ fn report<A: Ledger, O: Ledger, R: Read + Drop, W: Write + Drop>(
     })
 }
 
-// Serves a line whose session is shut before its first request: by the line itself, or by the floor for this reason.
-// Answers what the comparison says of that.
+// Serves a line whose session is shut before its first request: by the line itself, or by the floor
+// for this reason. Answers what the comparison says of that.
 fn shut_early<
     A: Ledger + Send + Sync,
     O: Ledger + Send + Sync,
@@ -159,7 +159,7 @@ fn shut_early<
     let config = two_spaces(alloc)?;
     let house = RowsHouse::new(alloc, &config)?;
     let kept = Kept::<RowsHouse, A, O>::new(alloc, house, &config, ERA, asks, outs)?;
-    let floor = Floor::new(alloc, kept, 1, u64::MAX, u64::MAX)?;
+    let floor = Floor::new(alloc, kept, 1, u64::MAX, u64::MAX, u64::MAX)?;
     let dial = Dial { watch, noon: None };
     let shared = Shared {
         rt,
@@ -216,7 +216,12 @@ fn shut_by<T: Threads + Wait + time::Clock + Sync>(
 
 #[test]
 fn a_line_is_cut_only_where_the_house_shut_it(rt: HostRuntime) -> Result<(), Fail> {
-    for why in [ShutFor::Backlog, ShutFor::NoThread, ShutFor::Ending] {
+    for why in [
+        ShutFor::Backlog,
+        ShutFor::NoThread,
+        ShutFor::Ending,
+        ShutFor::Silent,
+    ] {
         assert_eq!(rt; shut_by(&rt, rt.alloc(), Some(why))?, Some(Ended::Cut));
     }
     assert_eq!(rt; shut_by(&rt, rt.alloc(), None)?, None);

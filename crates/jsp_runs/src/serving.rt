@@ -47,6 +47,7 @@ pub(crate) fn serve<T: Threads + Wait + time::Clock + Sync>(
         era,
         era_bytes: u64::MAX,
         backlog: u64::MAX,
+        backlog_bytes: u64::MAX,
     };
     let Ok(closed) = run_house(rt, alloc, house, &config, bounds, 0, lines, watch, &dial) else {
         return Err(Fail::new("a fault"));
@@ -86,7 +87,8 @@ fn is_sound(alloc: Global, line: &LineReport, talk: &Talk) -> Result<bool, Fail>
     Ok(line.ended == Ended::End && !has_failed && has_read && has_written)
 }
 
-// Whether the whole history is there, with each line as it should be, by the numbers of their sessions.
+// Whether the whole history is there, with each line as it should be, by the numbers of their
+// sessions.
 fn is_whole(alloc: Global, closed: &Closed, talks: &[Talk]) -> Result<bool, Fail> {
     let Closed::Whole { lines, .. } = closed else {
         return Ok(false);

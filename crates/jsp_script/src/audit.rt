@@ -11,8 +11,8 @@ use jsp_drive::Sent;
 use jsp_model::{Config, Step};
 use std::alloc::Global;
 
-/// Replays the steps from the empty state of a config, and compares what they say with what was sent,
-/// session by session. The seed is for the replay.
+/// Replays the steps from the empty state of a config, and compares what they say with what was
+/// sent, session by session. The seed is for the replay.
 pub(crate) fn audit(
     alloc: Global,
     config: &Config,

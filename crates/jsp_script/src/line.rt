@@ -22,8 +22,8 @@ pub(crate) enum Line {
 
 /// Reads a line: `open c`, `send c JSON`, `hex c HEX`, `shut c`, `clock t` or `settle`. c is a
 /// session's decimal number, JSON is all that is left of the line, sent as one frame, HEX is one or
-/// more pairs of hex digits, sent as these bytes, and t is a reading of the clock in milliseconds. One
-/// blank stands between parts.
+/// more pairs of hex digits, sent as these bytes, and t is a reading of the clock in milliseconds.
+/// One blank stands between parts.
 pub(crate) fn read_line(alloc: Global, line: &[u8]) -> Result<Line, NoMemory>
     requires { length line.now < 2 ^ 32 }
     ensures { IfOk result (IsReadAs line.now) }

@@ -35,7 +35,8 @@ pub enum Status {
 #[derive(Clone, Copy, Debug, PartialEq, Eq)]
 pub struct Ending {
     pub status: Status,
-    /// Whether all that was to be told of a fault was told. The writer that it is told on may fail too.
+    /// Whether all that was to be told of a fault was told. The writer that it is told on may fail
+    /// too.
     pub is_told: bool,
 }
 
@@ -53,18 +54,18 @@ impl From<Status> for ExitCode {
     }
 }
 
-/// Runs the script that `reader` gives, at most 16,777,216 bytes, over an empty house of the spaces of
-/// `config`. Where memory for the house was refused, that is told in its turn. Where a replay has a
-/// seed, the run is replayed with keys of that seed before anything is written, and compared with what
-/// was sent; that takes time and memory, and changes nothing of what is promised.
+/// Runs the script that `reader` gives, at most 16,777,216 bytes, over an empty house of the spaces
+/// of `config`. Where memory for the house was refused, that is told in its turn. Where a replay
+/// has a seed, the run is replayed with keys of that seed before anything is written, and compared
+/// with what was sent; that takes time and memory, and changes nothing of what is promised.
 ///
-/// A line is `open c`, `send c JSON`, `hex c HEX` or `shut c`: c is the decimal number of a session,
-/// below 2^64, one blank stands between parts, JSON is the rest of the line, and HEX is one or more
-/// pairs of hex digits. Or it is `clock t`, a reading in milliseconds, or `settle`, a turn of the house.
-/// Empty lines and lines that begin with `#` are passed over. For each answer `c JSON` is written to
-/// `out`, line by line in the order in which the answers are given. The first fault met is told on
-/// `faults` by one line. Where a line isn't understood or the input is too long, nothing is run. (This
-/// profile's own.)
+/// A line is `open c`, `send c JSON`, `hex c HEX` or `shut c`: c is the decimal number of a
+/// session, below 2^64, one blank stands between parts, JSON is the rest of the line, and HEX is
+/// one or more pairs of hex digits. Or it is `clock t`, a reading in milliseconds, or `settle`, a
+/// turn of the house. Empty lines and lines that begin with `#` are passed over. For each answer `c
+/// JSON` is written to `out`, line by line in the order in which the answers are given. The first
+/// fault met is told on `faults` by one line. Where a line isn't understood or the input is too
+/// long, nothing is run. (This profile's own.)
 pub fn script<H: House, R: Read, W: Write, F: Write>(
     alloc: Global,
     house: Result<H, NoMemory>,

@@ -7,7 +7,8 @@ use crate::fault::ScriptFault;
 use itoa::Buffer;
 use std::io::{ErrorKind, Write};
 
-/// Writes the bytes, or where the writer fails a beginning of them, and answers whether it wrote all.
+/// Writes the bytes, or where the writer fails a beginning of them, and answers whether it wrote
+/// all.
 pub(crate) fn write_bytes<W: Write>(out: &mut W, bytes: &[u8]) -> bool
     ensures all { result ≡ true → Appends (W.contents out.old) (W.contents out.new) bytes.now }
     ensures some { AppendsSome (W.contents out.old) (W.contents out.new) bytes.now }

@@ -8,7 +8,8 @@ use std::time::{Clock, Duration};
 /// How long, in milliseconds, a status is waited for.
 const PATIENCE: u64 = 1000;
 
-/// Where a server's status is asked for, and put by the thread that settles. No other lock is taken under its own.
+/// Where a server's status is asked for, and put by the thread that settles. No other lock is taken
+/// under its own.
 #[derive(Drop)]
 pub struct Board {
     is_wanted: AtomicBool,

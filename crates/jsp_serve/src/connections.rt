@@ -9,11 +9,12 @@ use std::net::TcpListener;
 use std::thread;
 use std::time::{Clock, Duration};
 
-/// After how many milliseconds a connection is asked for again where the system had no room for one.
+/// After how many milliseconds a connection is asked for again where the system had no room for
+/// one.
 const PAUSE: u64 = 50;
 
-/// The errors of Linux that say that the system has no descriptor or no memory for a connection: `ENOMEM`, `ENFILE`,
-/// `EMFILE`, `ENOBUFS`.
+/// The errors of Linux that say that the system has no descriptor or no memory for a connection:
+/// `ENOMEM`, `ENFILE`, `EMFILE`, `ENOBUFS`.
 const NO_ROOM: [i32; 4] = [12, 23, 24, 105];
 
 /// The error of Linux that says that a connection was broken before it was accepted: `EPROTO`.
@@ -57,8 +58,9 @@ impl<T: Clock> Connections<'_, T> {
 
 impl<'a, T: Clock> Door<Incoming<'a, T>, Outgoing<'a, T>, Connection<'a, T>>
     for Connections<'a, T> {
-    /// Waits for a connection. One that is gone again before it can be served counts as one. Where the system has no
-    /// room for one it is asked again after a pause: that is no fault of the server, and may end.
+    /// Waits for a connection. One that is gone again before it can be served counts as one. Where
+    /// the system has no room for one it is asked again after a pause: that is no fault of the
+    /// server, and may end.
     fn next(&mut self) -> Knock<Incoming<'a, T>, Outgoing<'a, T>, Connection<'a, T>> {
         for _ in 0..u64::MAX {
             if self.left == 0 {

@@ -11,8 +11,9 @@ use std::sync::Arc;
 use std::sync::atomic::AtomicU64;
 use std::time::{Clock, Duration};
 
-/// How often a read or a write that was interrupted is made again. Nothing interrupts one so often; the bound is there
-/// so that each of the two loops below ends by itself: the call behind it is the last, and its answer is the answer.
+/// How often a read or a write that was interrupted is made again. Nothing interrupts one so often;
+/// the bound is there so that each of the two loops below ends by itself: the call behind it is the
+/// last, and its answer is the answer.
 const INTERRUPTIONS: u32 = 1000;
 
 /// How many milliseconds a call may take for which no time is left: none is too few for a socket.
@@ -25,22 +26,20 @@ struct Link<'a, T> {
     stream: TcpStream,
     /// How many whole requests it made.
     requests: AtomicU64,
-    /// How long it may make none, if that is bounded.
-    idle: Option<Idle>,
+    /// How long it has made none.
+    idle: Idle,
 }
 
 impl<T: Clock> Link<'_, T> {
     /// How long the next call may take, where that is bounded: zero where no time is left.
     fn time_left(&self) -> io::Result<Option<Duration>> {
-        match &self.idle {
-            None => Ok(None),
-            Some(idle) => Ok(Some(idle.left(self.system, &self.requests)?)),
-        }
+        self.idle.left(self.system, &self.requests)
     }
 }
 
-/// The two halves of a connection, and the whole of it. An answer goes out at once, without waiting for more to send
-/// with it. None where the client is gone, or there is no memory: the connection is closed then.
+/// The two halves of a connection, and the whole of it. An answer goes out at once, without waiting
+/// for more to send with it. None where the client is gone, or there is no memory: the connection
+/// is closed then.
 pub(crate) fn halves<'a, T: Clock>(
     system: &'a T,
     alloc: Global,
@@ -48,10 +47,7 @@ pub(crate) fn halves<'a, T: Clock>(
     idle: Option<Duration>,
 ) -> Option<(Incoming<'a, T>, Outgoing<'a, T>, Connection<'a, T>)> {
     stream.set_nodelay(true).ok()?;
-    let idle = match idle {
-        None => None,
-        Some(most) => Some(Idle::new(system, most).ok()?),
-    };
+    let idle = Idle::new(system, idle).ok()?;
     let link = Link {
         system,
         stream,
@@ -76,8 +72,8 @@ fn bound_of(left: Option<Duration>) -> Option<Duration> {
     left.map(|left| left.max(Duration::from_millis(SHORTEST)))
 }
 
-/// Whether a call is to be made again: where it has a bound on its time, a program that is halted and goes on
-/// interrupts it.
+/// Whether a call is to be made again: where it has a bound on its time, a program that is halted
+/// and goes on interrupts it.
 fn is_interrupted(done: &io::Result<usize>) -> bool {
     matches!(done, Err(error) if error.kind() == ErrorKind::Interrupted)
 }
@@ -182,7 +178,7 @@ impl<T: Clock> Write for Outgoing<'_, T> {
 #[derive(Drop)]
 pub(crate) struct Connection<'a, T>(Arc<Link<'a, T>>);
 
-impl<T> Hangup for Connection<'_, T> {
+impl<T: Clock> Hangup for Connection<'_, T> {
     fn hang_up(&self) {
         // Its client may have ended it before.
         let _ = self.0.stream.shutdown(Shutdown::Both);
@@ -190,5 +186,9 @@ impl<T> Hangup for Connection<'_, T> {
 
     fn requests(&self) -> &AtomicU64 {
         &self.0.requests
+    }
+
+    fn silent(&self) -> u64 {
+        self.0.idle.silent(self.0.system, &self.0.requests)
     }
 }

@@ -123,19 +123,19 @@ pub struct Service {
     pub lines: u64,
     /// After how much time in which it makes no whole request a connection is closed, where one is.
     pub idle: Option<Duration>,
-    /// How many are served at once, and what the history takes of memory: a step is some 300 bytes where requests are
-    /// short.
+    /// How many are served at once, and what the history takes of memory: a step is some 300 bytes
+    /// where requests are short.
     pub bounds: Bounds,
     pub seeds: Seeds,
 }
 
-/// Serves the connections of the listener over the spaces of `config`, and ends when there were as many as
-/// `service` says and all have ended, or in order once it is asked to `stop`. Meanwhile it puts its status on the board
-/// where that is asked for.
+/// Serves the connections of the listener over the spaces of `config`, and ends when there were as
+/// many as `service` says and all have ended, or in order once it is asked to `stop`. Meanwhile it
+/// puts its status on the board where that is asked for.
 ///
-/// Each whole line of the answer is a connection's: what it read is what was asked by it and counted, what it wrote are the
-/// frames of the answers that it took, and a failure is told where a call of its socket failed. Of what a socket gives or
-/// takes nothing is known.
+/// Each whole line of the answer is a connection's: what it read is what was asked by it and
+/// counted, what it wrote are the frames of the answers that it took, and a failure is told where a
+/// call of its socket failed. Of what a socket gives or takes nothing is known.
 pub fn serve<T: Threads + Wait + SystemClock + Sync>(
     rt: &T,
     alloc: Global,

@@ -67,8 +67,8 @@ fn let_in<T: Clock>(rt: &T, alloc: Global, listener: &TcpListener, visits: &mut 
     }
 }
 
-/// Looks whether a connection has asked, and answers it with the last status, or with a new one where
-/// that is old. The status that was taken last is given back.
+/// Looks whether a connection has asked, and answers it with the last status, or with a new one
+/// where that is old. The status that was taken last is given back.
 fn look_at<T: Wait + Clock + RandomSource>(
     rt: &T,
     alloc: Global,

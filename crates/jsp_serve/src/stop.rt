@@ -1,8 +1,8 @@
 //! A server's end from outside.
 use std::sync::atomic::{AtomicBool, Ordering};
 
-/// Asks a server to end in order: it takes no more connections, shuts the sessions of those that it serves, settles what
-/// is left and compares its history.
+/// Asks a server to end in order: it takes no more connections, shuts the sessions of those that it
+/// serves, settles what is left and compares its history.
 #[derive(Drop)]
 pub struct Stop {
     is_asked: AtomicBool,
@@ -15,8 +15,8 @@ impl Stop {
         }
     }
 
-    /// Asks for the end. The server sees it when its next connection comes, which may be one that is made
-    /// for that, or by itself where it takes no more.
+    /// Asks for the end. The server sees it when its next connection comes, which may be one that
+    /// is made for that, or by itself where it takes no more.
     pub fn ask(&self) {
         self.is_asked.store(true, Ordering::SeqCst);
     }

@@ -1,4 +1,5 @@
-//! Copies can be made where there is memory. That a copy is the same is proved at the two functions here.
+//! Copies can be made where there is memory. That a copy is the same is proved at the two functions
+//! here.
 ghost use Rattle.std.specs.Prelude.{◌≡◌, IfOk};
 
 use jsp_types::{Classes, Items, Kind, NoMemory, Raw, Template, Text, Value, check_template};

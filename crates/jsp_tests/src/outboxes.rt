@@ -54,3 +54,22 @@ fn very_many_to_whom_something_is_told_are_all_named(rt: HostRuntime) -> Result<
     }
     Ok(())
 }
+
+#[test]
+fn what_waits_has_a_weight(rt: HostRuntime) -> Result<(), Fail> {
+    let mut outboxes = Outboxes::new(rt.alloc());
+    assert_eq!(rt; outboxes.weight(1), 0);
+    let _posted = outboxes.post(rt.alloc(), 1, done(5))?;
+    let one = outboxes.weight(1);
+    assert!(rt; 0 < one);
+    let posted = outboxes.post(rt.alloc(), 1, done(6))?;
+    assert_eq!(rt; outboxes.weight(1), one.saturating_add(one));
+    outboxes.take_back(posted);
+    assert_eq!(rt; outboxes.weight(1), one);
+    let _posted = outboxes.post(rt.alloc(), 1, done(7))?;
+    assert_eq!(rt; outboxes.hand_out(rt.alloc(), 1, 1)?.len(), 1);
+    assert_eq!(rt; outboxes.weight(1), one);
+    assert_eq!(rt; outboxes.hand_out(rt.alloc(), 1, 1)?.len(), 1);
+    assert_eq!(rt; outboxes.weight(1), 0);
+    Ok(())
+}

@@ -1,4 +1,5 @@
-//! A status as a page and as JSON, and what is answered over HTTP. The texts were worked out by hand.
+//! A status as a page and as JSON, and what is answered over HTTP. The texts were worked out by
+//! hand.
 use jsp_status::{RefusalCount, SpaceStatus, Status, answer_so_far, serve, to_json, to_page};
 use std::alloc::{AllocError, Global};
 use std::hash::RandomState;

@@ -1,5 +1,5 @@
-//! What is read as a request and what is refused, where that is JSON's to say, and that each operation
-//! and each length of payload is read where there is memory.
+//! What is read as a request and what is refused, where that is JSON's to say, and that each
+//! operation and each length of payload is read where there is memory.
 use jsp_wire::{Ask, Asked, Scratch, Version, WireFault, read_ask, read_ask_in, read_ask_with};
 use std::test::Fail;
 
@@ -136,8 +136,8 @@ fn resets(read: &Result<Asked, WireFault>, name: &str) -> bool {
     }
 }
 
-// Lengths about that of the longest payload for which a scratch space is kept, 4,096 bytes, of which
-// 34 aren't letters of the name, and a short one behind each long one.
+// Lengths about that of the longest payload for which a scratch space is kept, 4,096 bytes, of
+// which 34 aren't letters of the name, and a short one behind each long one.
 #[test]
 fn long_and_short_payloads_in_a_scratch_space_that_is_kept(rt: HostRuntime) -> Result<(), Fail> {
     let alloc = rt.alloc();

@@ -1,6 +1,6 @@
-use Rattle.std.proofs.Common.{◌≡◌, map, take}
+use Rattle.std.proofs.Common.{◌≡◌, ◌++◌, map, take, drop}
 use Rattle.jsp_notify.specs.News.{hearing}
 use Rattle.jsp_notify.proofs.registrations.tell_copies.Given as goal
 
-abbrev pub invariant-news : goal.invariant-news
-invariant-news l = l.copies ≡ map (hearing (take l.one-index l.news)) l.initial.copies
+abbrev pub invariant-copies : goal.invariant-copies
+invariant-copies l = l.copies ≡ map (hearing l.news) (take l.place l.initial.copies) ++ drop l.place l.initial.copies

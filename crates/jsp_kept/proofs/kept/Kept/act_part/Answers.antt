@@ -6,6 +6,7 @@ use Rattle.jsp_kept.proofs.Owns.{CountsAsk, own_of_session, lawful_within}
 use Rattle.jsp_kept.proofs.Keeping.{grows_by_ask}
 use Rattle.jsp_kept.proofs.Counting.{whole_by_ask}
 use Rattle.jsp_kept.proofs.Besides.{performs_beside}
+use Rattle.jsp_kept.proofs.Stopping.{part_stopped}
 use Rattle.jsp_kept.proofs.kept.Kept.act_part.Goals as goal
 
 pub invariant_of-self : goal.invariant_of-self
@@ -43,3 +44,7 @@ returns-clause-performs g c =
     let counts : CountsAsk (own_of acts.steps) s c.own_steps-by.result = rw (by, acts.own) (own_of_session st s c.args.input r of) in
     rw (← c.self.view_is) (performs_beside _ _ c.args.input r (record { spaces = refl; era = refl; is_sealed = refl }) c.act_within-result.ensures.acts
     (grows_by_ask _ _ _ s c.own_steps-by.result c.self.invariant.kept counts c.seat.invariant.2 (lawful_within _ _ _ lawful) c.raise.ensures c.add.ensures.total (record { taken = refl; book = refl })))
+
+pub returns-clause-long : goal.returns-clause-long
+returns-clause-long g c =
+    rw (← c.self.view_is) (part_stopped _ _ _ _ c.args.most _ _ c.act_within-result.result c.self.inside.log.ok.0 c.self.invariant.limit c.act_within-result.new.log.ok.0 c.act_within-result.ensures.long)

@@ -4,6 +4,7 @@ use Rattle.jsp_kept.proofs.Owns.{IsUncounted, clock_own}
 use Rattle.jsp_kept.proofs.Keeping.{grows_quietly}
 use Rattle.jsp_kept.proofs.Counting.{whole_quietly}
 use Rattle.jsp_kept.proofs.Besides.{performs_beside}
+use Rattle.jsp_kept.proofs.Stopping.{part_stopped}
 use Rattle.jsp_kept.proofs.kept.Kept.clock_part.Goals as goal
 
 pub invariant_of-self : goal.invariant_of-self
@@ -28,3 +29,7 @@ returns-clause-performs g c =
     let acts = c.act_within.ensures.acts.acts in
     rw (← c.self.view_is) (performs_beside _ _ (input.Clock c.args.time) c.act_within.result (record { spaces = refl; era = refl; is_sealed = refl }) c.act_within.ensures.acts
     (grows_quietly _ _ _ c.self.invariant.kept (subst IsUncounted (sym acts.own) (clock_own (g.H.House.view c.self.inside.house) c.args.time c.act_within.result)) (record { asked = refl; book = refl }) (record { taken = refl; book = refl })))
+
+pub returns-clause-long : goal.returns-clause-long
+returns-clause-long g c =
+    rw (← c.self.view_is) (part_stopped _ _ _ _ c.args.most _ _ c.act_within.result c.self.inside.log.ok.0 c.self.invariant.limit c.act_within.new.log.ok.0 c.act_within.ensures.long)

@@ -4,6 +4,7 @@ use Rattle.jsp_kept.proofs.Keeping.{grows_quietly}
 use Rattle.jsp_kept.proofs.Counting.{whole_quietly}
 use Rattle.jsp_kept.proofs.Growing.{performs_in_era}
 use Rattle.jsp_kept.proofs.Besides.{turn_answers}
+use Rattle.jsp_kept.proofs.Stopping.{part_stopped}
 use Rattle.jsp_kept.proofs.kept.Kept.settle_part.Goals as goal
 use Rattle.jsp_kept.proofs.Turning.{outcome_leaves}
 
@@ -31,3 +32,7 @@ returns-clause-performs g c =
 
 pub returns-clause-answers : goal.returns-clause-answers
 returns-clause-answers g c = rw (← c.self.view_is) (turn_answers _ _ _ c.settle_within.result c.settle_within.ensures.settles.answers)
+
+pub returns-clause-long : goal.returns-clause-long
+returns-clause-long g c =
+    rw (← c.self.view_is) (part_stopped _ _ _ _ c.args.most _ _ c.settle_within.result c.self.inside.log.ok.0 c.self.invariant.limit c.settle_within.new.log.ok.0 c.settle_within.ensures.long)

@@ -7,7 +7,7 @@ use Rattle.jsp_notify.proofs.registrations.Registrations.any_of.Goals as goal
 
 pub returns : goal.returns
 returns g c =
-    let self = c.self.inside in
+    let self = c.self.inside.listeners in
     let passes = g.P.Test.is_passed c.args.test.now in
     c.any_of.ensures
     ∙ (passing_after self.news c.args.number passes (λ owed r. c.requires owed r) self.heard ∙ ap (list_any (λ (r : Registration). r.number == c.args.number && passes r)) c.self.view_is)

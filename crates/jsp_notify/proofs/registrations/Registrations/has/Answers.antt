@@ -8,5 +8,5 @@ use Rattle.jsp_notify.proofs.registrations.Registrations.has.Goals as goal
 
 pub returns : goal.returns
 returns c =
-    let self = c.self.inside in
+    let self = c.self.inside.listeners in
     c.has.ensures ∙ (sym (any_after (hearing self.news) (λ (r : Registration). r.number == c.args.number) self.heard) ∙ ap (list_any (λ (r : Registration). r.number == c.args.number)) c.self.view_is)

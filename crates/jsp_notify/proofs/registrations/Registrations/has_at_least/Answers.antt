@@ -7,5 +7,5 @@ use Rattle.jsp_notify.proofs.registrations.Registrations.has_at_least.Goals as g
 
 pub returns : goal.returns
 returns c =
-    let self = c.self.inside in
+    let self = c.self.inside.listeners in
     c.has_at_least.ensures ∙ (ap (nat_le c.args.count) (sym (length-map self.heard (hearing self.news))) ∙ ap (λ (rs : List Registration). nat_le c.args.count (length rs)) c.self.view_is)

@@ -7,5 +7,5 @@ use Rattle.jsp_notify.proofs.registrations.Registrations.is_empty.Goals as goal
 
 pub returns : goal.returns
 returns c =
-    let self = c.self.inside in
+    let self = c.self.inside.listeners in
     c.is_empty.ensures ∙ (ap (λ n. n == 0) (sym (length-map self.heard (hearing self.news))) ∙ ap (λ (rs : List Registration). length rs == 0) c.self.view_is)

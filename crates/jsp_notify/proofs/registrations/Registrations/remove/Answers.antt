@@ -8,5 +8,5 @@ use Rattle.jsp_notify.proofs.registrations.Registrations.remove.Goals as goal
 pub returns : goal.returns
 returns c =
     let stays : Registration → Bool = λ r. not (r.number == c.args.number) in
-    let self = c.self.inside in
+    let self = c.self.inside.listeners in
     ap (map (hearing self.news)) c.remove.ensures ∙ (left_out self.news stays (λ owed r. refl) self.heard ∙ ap (filter stays) c.self.view_is)

@@ -9,5 +9,5 @@ use Rattle.jsp_notify.proofs.registrations.Registrations.remove_under.Goals as g
 pub returns : goal.returns
 returns c =
     let stays : Registration → Bool = λ r. not (is_caller r.transaction c.args.x) in
-    let self = c.self.inside in
+    let self = c.self.inside.listeners in
     ap (map (hearing self.news)) c.remove_under.ensures ∙ (left_out self.news stays (λ owed r. refl) self.heard ∙ ap (filter stays) c.self.view_is)

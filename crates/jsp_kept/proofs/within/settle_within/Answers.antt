@@ -1,0 +1,8 @@
+use Rattle.std.proofs.Common.{refl}
+use Rattle.jsp_kept.proofs.Stopping.{part_stopped, stopped_long}
+use Rattle.jsp_kept.proofs.within.settle_within.Goals as goal
+
+pub returns-clause-long : goal.returns-clause-long
+returns-clause-long g c =
+    part_stopped _ _ _ _ c.args.most _ _ c.settle-result.result c.len.ensures refl refl
+    (stopped_long _ _ c.args.most c.args.limit _ _ c.settle-result.result c.end_of_part.ensures.long c.bound.ensures.bound c.settle-result.ensures.why)
