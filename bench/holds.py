@@ -183,7 +183,12 @@ def dropped_at_once(server, address, count):
         jsp.declare("Wide", **fields)
         for _ in range(0, count, WRITTEN):
             jsp.write_all("a", [entry("Wide", **values)] * WRITTEN, lease=FOREVER)
-        yield lambda: jsp.reset("a")
+
+        def drop():
+            jsp.reset("a")
+            jsp.read("a", entry("Wide"))  # which waits until the last is gone
+
+        yield drop
 
 
 def wait_beside(program, case, count):

@@ -32,6 +32,20 @@ pub trait InParts: Backlog {
         ensures room { KeepsRoom (Self.view self.old) (Self.view self.new) (vec_capacity log.old - vec_len log.old) (vec_capacity log.new - vec_len log.new) }
         ensures bound { KeepsBound (Self.bound_of self.old) (Self.bound_of self.new) (vec_len log.old) (vec_len log.new) };
 
+    /// Applies some of what was decided earlier, where the input touches a space or the clock goes on to a row's end, in
+    /// a time that doesn't grow with how much that is. Whether nothing is left there. What is left a call of the input
+    /// applies by itself, all at once. Nothing that is said of the house changes.
+    fn apply_before(&mut self, input: &Input) -> bool
+        ensures view { Self.view self.new ≡ Self.view self.old }
+        ensures debt { Self.debt self.new ≡ Self.debt self.old }
+        ensures bound { Self.bound_of self.new ≡ Self.bound_of self.old };
+
+    /// The same where the next settle turn touches a space, or in all spaces where no transaction votes.
+    fn apply_before_turn(&mut self) -> bool
+        ensures view { Self.view self.new ≡ Self.view self.old }
+        ensures debt { Self.debt self.new ≡ Self.debt self.old }
+        ensures bound { Self.bound_of self.new ≡ Self.bound_of self.old };
+
     /// How far the clock is to go on towards a reading: to the next end, so that ends come one at a time, or to before
     /// it where what ends stands in a space that isn't quiet; to the reading where nothing ends by then. Nothing changes.
     fn next_time(&mut self, reading: u64) -> u64

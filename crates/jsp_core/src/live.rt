@@ -103,6 +103,34 @@ impl LiveImage {
         apply_in(&mut self.state, space);
     }
 
+    /// The same, but rows of a space that was reset stay as they are: none of them is found anyway.
+    pub fn apply_unless_cleared(&mut self, space: u64)
+        ensures { self.new ≡ self.old }
+    {
+        apply_unless_cleared(&mut self.state, space);
+    }
+
+    /// Whether the space has a decision that it hasn't applied.
+    pub fn has_unapplied(&self, space: u64) -> bool {
+        self.state.rows.pending(space) > 0
+    }
+
+    /// The space applies some of the decisions that it hasn't applied, in a time that doesn't grow with how
+    /// many rows they change. Whether it has applied all. Takes no memory.
+    pub fn apply_part(&mut self, space: u64) -> bool
+        ensures { self.new ≡ self.old }
+    {
+        apply_part(&mut self.state, space)
+    }
+
+    /// The space of a row that ends by then and comes first applies some of them. Whether it has none to
+    /// apply. Takes no memory.
+    pub fn apply_due_part(&mut self, time: u64) -> bool
+        ensures { self.new ≡ self.old }
+    {
+        apply_due_part(&mut self.state, time)
+    }
+
     /// The spaces apply theirs in which a row ends that is first to end. Takes no memory.
     pub fn apply_due(&mut self)
         ensures { self.new ≡ self.old }
@@ -131,6 +159,28 @@ fn apply_in(state: &mut Core, space: u64)
     hear_in(state, space);
     let rows = &mut state.rows;
     rows.apply_in(space);
+}
+
+fn apply_unless_cleared(state: &mut Core, space: u64)
+    ensures { state.new ≡ state.old }
+{
+    hear_in(state, space);
+    let rows = &mut state.rows;
+    rows.apply_unless_cleared(space);
+}
+
+fn apply_part(state: &mut Core, space: u64) -> bool
+    ensures { state.new ≡ state.old }
+{
+    let rows = &mut state.rows;
+    rows.apply_part(space)
+}
+
+fn apply_due_part(state: &mut Core, time: u64) -> bool
+    ensures { state.new ≡ state.old }
+{
+    let rows = &mut state.rows;
+    rows.apply_due_part(time)
 }
 
 fn apply_due(state: &mut Core)

@@ -1,5 +1,5 @@
 -- A transaction that ends, in each space where it holds rows.
-use Rattle.std.proofs.Common.{◌≡◌, ℕ, Bool, true, false, not, cond, ◌&&◌, ◌||◌, eqb, List, [], ◌∷◌, ◌++◌, Option, Some, None, option_and_then, refl, ap, sym, ◌∙◌, subst, inl, inr}
+use Rattle.std.proofs.Common.{◌≡◌, ℕ, Bool, true, false, not, cond, ◌&&◌, ◌||◌, eqb, List, [], ◌∷◌, ◌++◌, map, Option, Some, None, option_and_then, refl, ap, sym, ◌∙◌, subst, inl, inr}
 use Rattle.std.specs.Prelude.{filter, ◌==◌}
 use Rattle.std.specs.List.{AllByRecursion, filter_map, cons_option}
 use Rattle.std.proofs.lemmas.List.Sums.{fold-append}
@@ -11,7 +11,10 @@ use Rattle.jsp_sight.proofs.Unique.{or_parts}
 use Rattle.jsp_table.proofs.Rising.{or_cases}
 use Rattle.jsp_sight.specs.declared.deciding.Decision.{Decision}
 use Rattle.jsp_index.specs.Changing.{revised_by, IsOnce}
-use Rattle.jsp_sight.specs.Deciding.{fate, committed_row, aborted_row, rows_after, covers}
+use Rattle.jsp_sight.specs.Deciding.{fate, committed_row, aborted_row, rows_after as rows_decided, covers}
+use Rattle.jsp_decided.specs.declared.recorded.Recorded.{Recorded}
+use Rattle.jsp_decided.specs.declared.recorded.Recorded.TheVariants.{Decided, Reset}
+use Rattle.jsp_decided.specs.Recording.{becomes, rows_after}
 use Rattle.jsp_index.specs.Ending.{EndsAll}
 use Rattle.jsp_index.proofs.Revisions.{compose, eqb_same}
 use Rattle.jsp_index.proofs.Holders.{committed_is, aborted_is, settled_once, undone_once}
@@ -65,8 +68,12 @@ revised_before x gone changed before r s is held = at (gone r) is where
   at true g = absurd (cc)
   at false g = before r (ap (is_held x) (some_row g) ∙ held)
 
-pub held_before : (x : ℕ) (d : Decision) (r s : Row) → fate d r ≡ Some s → is_held x s ≡ true → is_held x r ≡ true
-held_before x d r s is held = at (eqb r.space d.space) d.commits is where
+pub held_before : (x : ℕ) (d : Recorded) (r s : Row) → becomes d r ≡ Some s → is_held x s ≡ true → is_held x r ≡ true
+held_before x (Reset space) r s is held = at (eqb r.space space) is where
+  at : (b : Bool) → cond b None (Some r) ≡ Some s → is_held x r ≡ true
+  at true g = absurd (cc)
+  at false g = ap (is_held x) (some_row g) ∙ held
+held_before x (Decided d) r s is held = at (eqb r.space d.space) d.commits is where
   at : (b k : Bool) → cond b (cond k (committed_row d.transaction r) (aborted_row d.transaction r)) (Some r) ≡ Some s → is_held x r ≡ true
   at true true g = revised_before x (λ (r : Row). is_caller r.taker d.transaction) (settled d.transaction) (settled_before d.transaction x) r s g held
   at true false g = revised_before x (λ (r : Row). is_caller r.writer d.transaction) (undone d.transaction) (undone_before d.transaction x) r s g held
@@ -108,7 +115,7 @@ module _ (x : ℕ) (commits : Bool) (f : Row → Option Row) (once : IsOnce f) (
       ap (λ y. cond (eqb r.space d.space) (cond d.commits (committed_row y r) (aborted_row y r)) (Some r)) alike.0
       ∙ (ap (λ k. cond (eqb r.space d.space) (cond k (committed_row x r) (aborted_row x r)) (Some r)) alike.1 ∙ ap (λ o. cond (eqb r.space d.space) o (Some r)) (is_f r))
 
-  all_covered : (ds : List Decision) (rows : List Row) → Alike ds → rows_after ds rows ≡ filter_map (in_covered ds) rows
+  all_covered : (ds : List Decision) (rows : List Row) → Alike ds → rows_decided ds rows ≡ filter_map (in_covered ds) rows
   all_covered [] rows alike = none_covered rows
   all_covered (d ∷ ds) rows alike = all_covered ds (filter_map (fate d) rows) alike.1 ∙ compose (fate d) (in_covered ds) (in_covered (d ∷ ds)) rows (λ r. ap (option_and_then (in_covered ds)) (one_fate d r alike.0) ∙ at r (eqb r.space d.space) refl) where
     again : (r : Row) (o : Option Row) → f r ≡ o → option_and_then (in_covered ds) o ≡ o
@@ -136,16 +143,20 @@ module _ (x : ℕ) (commits : Bool) (f : Row → Option Row) (once : IsOnce f) (
     at true e = rw (h.0 e) refl
     at false e = stays (covers ds r.space) (unheld r e)
 
-covering_after : (x : ℕ) (more ds : List Decision) (rows : List Row) → AllByRecursion (λ (r : Row). is_held x r ≡ true → covers more r.space ≡ true) rows → AllByRecursion (λ (r : Row). is_held x r ≡ true → covers more r.space ≡ true) (rows_after ds rows)
+covering_after : (x : ℕ) (more : List Decision) (ds : List Recorded) (rows : List Row) → AllByRecursion (λ (r : Row). is_held x r ≡ true → covers more r.space ≡ true) rows → AllByRecursion (λ (r : Row). is_held x r ≡ true → covers more r.space ≡ true) (rows_after ds rows)
 covering_after x more ds rows h = all_after (λ (r : Row). is_held x r ≡ true → covers more r.space ≡ true) (λ d r s is k held. ap (covers more) (fate_keys d r s is).space ∙ k (held_before x d r s is held)) ds rows h
 
--- what is decided last is done after all that is decided before
-pub ended_after : (x : ℕ) (commits : Bool) (ds more : List Decision) (rows : List Row) → EndsAll x commits more rows → rows_after (ds ++ more) rows ≡ cond commits (committed x (rows_after ds rows)) (aborted x (rows_after ds rows))
-ended_after x commits ds more rows ends = fold-append (λ rows d. filter_map (fate d) rows) rows ds more ∙ at commits ends.alike where
+all_decided : (ds : List Decision) (rows : List Row) → rows_after (map Decided ds) rows ≡ rows_decided ds rows
+all_decided [] rows = refl
+all_decided (d ∷ ds) rows = all_decided ds (filter_map (fate d) rows)
+
+-- what is decided last is done after all that is recorded before
+pub ended_after : (x : ℕ) (commits : Bool) (ds : List Recorded) (more : List Decision) (rows : List Row) → EndsAll x commits more rows → rows_after (ds ++ map Decided more) rows ≡ cond commits (committed x (rows_after ds rows)) (aborted x (rows_after ds rows))
+ended_after x commits ds more rows ends = fold-append (λ rows d. filter_map (becomes d) rows) rows ds (map Decided more) ∙ (all_decided more seen ∙ at commits ends.alike) where
   seen : List Row
   seen = rows_after ds rows
 
-  at : (k : Bool) → AllByRecursion (λ (d : Decision). (d.transaction ≡ x) × (d.commits ≡ k)) more → rows_after more seen ≡ cond k (committed x seen) (aborted x seen)
+  at : (k : Bool) → AllByRecursion (λ (d : Decision). (d.transaction ≡ x) × (d.commits ≡ k)) more → rows_decided more seen ≡ cond k (committed x seen) (aborted x seen)
   at true alike =
       all_covered x true (committed_row x) (settled_once x) (λ r. refl) more seen alike
       ∙ (all_ended x true (committed_row x) (settled_once x) (λ r. refl) more seen (unheld_commits x) (covering_after x more ds rows ends.covering) ∙ committed_is x seen)

@@ -11,8 +11,8 @@ use Rattle.jsp_table.proofs.Finding.{each, both}
 use Rattle.jsp_index.proofs.Covering.{eqb_eq}
 use Rattle.jsp_model.specs.declared.state.Row.{Row}
 use Rattle.jsp_sight.specs.Rows.{row_end}
-use Rattle.jsp_sight.specs.declared.deciding.Decision.{Decision}
-use Rattle.jsp_sight.specs.Deciding.{fate, rows_after}
+use Rattle.jsp_decided.specs.declared.recorded.Recorded.{Recorded}
+use Rattle.jsp_decided.specs.Recording.{becomes, rows_after}
 use Rattle.jsp_decided.specs.Decided.{row_after}
 use Rattle.jsp_decided.proofs.RowsAfter.{fate_keys, all_after}
 use Rattle.jsp_decided.proofs.Marks.{keys_after}
@@ -104,7 +104,7 @@ module _ (time : ℕ) where
   over_none (r ∷ rows) h = rw h.0 (over_none rows h.1)
 
   -- nothing is over then either
-  pub none_later : (ds : List Decision) (rows : List Row) → first_item (ends_by rows) ≡ None → None ≡ first_item (ends_by (rows_after ds rows))
+  pub none_later : (ds : List Recorded) (rows : List Row) → first_item (ends_by rows) ≡ None → None ≡ first_item (ends_by (rows_after ds rows))
   none_later ds rows none = over_none (rows_after ds rows) (all_after (λ (r : Row). nat_le r.end time ≡ false) (λ d r s is h. ap (λ e. nat_le e time) (fate_keys d r s is).end ∙ h) ds rows (none_over rows none))
 
   module _ (a : Item) (over : nat_le a.end time ≡ true) where
@@ -138,7 +138,7 @@ module _ (time : ℕ) where
           rw (ap (λ (i : Item). nat_le i.end time) is ∙ over) (here is)
       at false e k rest = behind (nat_le r.end time) refl (rest k)
 
-    pub first_later : (ds : List Decision) (rows : List Row) → first_item (ends_by rows) ≡ Some a → AreRising (λ (r : Row). r.number) rows → list_any (λ (r : Row). r.number == a.number) (rows_after ds rows) ≡ true → Some a ≡ first_item (ends_by (rows_after ds rows))
+    pub first_later : (ds : List Recorded) (rows : List Row) → first_item (ends_by rows) ≡ Some a → AreRising (λ (r : Row). r.number) rows → list_any (λ (r : Row). r.number == a.number) (rows_after ds rows) ≡ true → Some a ≡ first_item (ends_by (rows_after ds rows))
     first_later ds rows is up has =
         first_there (rows_after ds rows)
         (all_after (λ r. nat_le r.end time ≡ true → is_before (row_end r) a ≡ false) (λ d r s e h f. ap (λ i. is_before i a) (same_end d r s e) ∙ h (sym (ap (λ (i : Item). nat_le i.end time) (same_end d r s e)) ∙ f)) ds rows (of_ends (λ b. is_before b a ≡ false) rows (none_before (ends_by rows) a is)))
@@ -146,7 +146,7 @@ module _ (time : ℕ) where
         (first_is (λ (i : Item). AllByRecursion (λ (r : Row). r.number ≡ i.number → row_end r ≡ i) rows) (ends_by rows) a (all_ends (λ (i : Item). AllByRecursion (λ (r : Row). r.number ≡ i.number → row_end r ≡ i) rows) rows (only_ones rows up)) is))
         has
       where
-        same_end : (d : Decision) (r s : Row) → fate d r ≡ Some s → row_end s ≡ row_end r
+        same_end : (d : Recorded) (r s : Row) → becomes d r ≡ Some s → row_end s ≡ row_end r
         same_end d r s e = let keys = fate_keys d r s e in (λ i. record { end = keys.end i; rank = (row_end r).rank; number = keys.number i })
 
         apart : {a b : ℕ} → a < b → a ≡ b → ⊥
@@ -164,9 +164,9 @@ module _ (time : ℕ) where
   is_over rows a is = first_is (λ (i : Item). nat_le i.end time ≡ true) (ends_by rows) a (all_over rows) is
 
 -- those that are left
-pub left_ends : (ds : List Decision) (rows : List Row) → map row_end (filter (passes_later (λ _. true) ds) rows) ≡ map row_end (rows_after ds rows)
+pub left_ends : (ds : List Recorded) (rows : List Row) → map row_end (filter (passes_later (λ _. true) ds) rows) ≡ map row_end (rows_after ds rows)
 left_ends ds rows = sym (passing_later row_end same_end (λ _. true) ds rows) ∙ ap (map row_end) (every_one (rows_after ds rows)) where
-  same_end : (ds : List Decision) (r s : Row) → row_after ds r ≡ Some s → row_end s ≡ row_end r
+  same_end : (ds : List Recorded) (r s : Row) → row_after ds r ≡ Some s → row_end s ≡ row_end r
   same_end ds r s e = let keys = keys_after ds r s e in (λ i. record { end = keys.end i; rank = (row_end r).rank; number = keys.number i })
 
   every_one : (rows : List Row) → filter (λ _. true) rows ≡ rows

@@ -8,8 +8,8 @@ use Rattle.jsp_model.specs.declared.state.Row.{Row}
 use Rattle.jsp_table.specs.Finding.{AreNumbered as AreRising}
 use Rattle.jsp_table.specs.Places.{living}
 use Rattle.jsp_keyed.proofs.Placed.{any_is}
-use Rattle.jsp_sight.specs.declared.deciding.Decision.{Decision}
-use Rattle.jsp_sight.specs.Deciding.{fate, rows_after}
+use Rattle.jsp_decided.specs.declared.recorded.Recorded.{Recorded}
+use Rattle.jsp_decided.specs.Recording.{becomes, rows_after}
 use Rattle.jsp_index.specs.Finding.{row_numbered}
 use Rattle.jsp_index.proofs.Covering.{eqb_eq}
 use Rattle.jsp_index.proofs.Revisions.{compose}
@@ -21,16 +21,16 @@ all_same : (rows : List Row) → rows ≡ filter_map (λ (r : Row). Some r) rows
 all_same [] = refl
 all_same (r ∷ rows) = ap (λ w. r ∷ w) (all_same rows)
 
-pub each_after : (ds : List Decision) (rows : List Row) → rows_after ds rows ≡ filter_map (row_after ds) rows
+pub each_after : (ds : List Recorded) (rows : List Row) → rows_after ds rows ≡ filter_map (row_after ds) rows
 each_after [] rows = all_same rows
-each_after (d ∷ ds) rows = each_after ds (filter_map (fate d) rows) ∙ compose (fate d) (row_after ds) (row_after (d ∷ ds)) rows (λ r. at (fate d r)) where
-  at : (o : Option Row) → option_and_then (row_after ds) o ≡ fold (λ o d. option_and_then (fate d) o) o ds
+each_after (d ∷ ds) rows = each_after ds (filter_map (becomes d) rows) ∙ compose (becomes d) (row_after ds) (row_after (d ∷ ds)) rows (λ r. at (becomes d r)) where
+  at : (o : Option Row) → option_and_then (row_after ds) o ≡ fold (λ o d. option_and_then (becomes d) o) o ds
   at None = sym (none_stays ds)
   at (Some s) = refl
 
 -- ---- those that pass then
 
-abbrev pub passes_later : (Row → Bool) → List Decision → Row → Bool
+abbrev pub passes_later : (Row → Bool) → List Recorded → Row → Bool
 passes_later p ds r = option_map_or p (row_after ds r) false
 
 module _ {X : Type 0} (g : Row → X) (f : Row → Option Row) (p : Row → Bool) (same : (r s : Row) → f r ≡ Some s → g s ≡ g r) where
@@ -47,7 +47,7 @@ module _ {X : Type 0} (g : Row → X) (f : Row → Option Row) (p : Row → Bool
         both k h = cc
       here false = rest
 
-pub passing_later : {X : Type 0} (g : Row → X) (same : (ds : List Decision) (r s : Row) → row_after ds r ≡ Some s → g s ≡ g r) (p : Row → Bool) (ds : List Decision) (rows : List Row) → map g (filter p (rows_after ds rows)) ≡ map g (filter (passes_later p ds) rows)
+pub passing_later : {X : Type 0} (g : Row → X) (same : (ds : List Recorded) (r s : Row) → row_after ds r ≡ Some s → g s ≡ g r) (p : Row → Bool) (ds : List Recorded) (rows : List Row) → map g (filter p (rows_after ds rows)) ≡ map g (filter (passes_later p ds) rows)
 passing_later g same p ds rows = ap (λ w. map g (filter p w)) (each_after ds rows) ∙ passing g (row_after ds) p (same ds) rows
 
 any_passing : (f : Row → Option Row) (p : Row → Bool) (rows : List Row) → list_any p (filter_map f rows) ≡ list_any (λ r. option_map_or p (f r) false) rows
@@ -57,7 +57,7 @@ any_passing f p (r ∷ rows) = at (f r) (any_passing f p rows) where
   at None rest = rest
   at (Some s) rest = ap (λ w. p s || w) rest
 
-pub any_later : (p : Row → Bool) (ds : List Decision) (rows : List Row) → list_any p (rows_after ds rows) ≡ list_any (passes_later p ds) rows
+pub any_later : (p : Row → Bool) (ds : List Recorded) (rows : List Row) → list_any p (rows_after ds rows) ≡ list_any (passes_later p ds) rows
 any_later p ds rows = ap (list_any p) (each_after ds rows) ∙ any_passing (row_after ds) p rows
 
 -- ---- at places
@@ -102,15 +102,15 @@ module _ (f : Row → Option Row) (keeps : (r s : Row) → f r ≡ Some s → s.
     at false e None g rest = rest
     at false e (Some s) g rest = rw (ap (λ k. eqb k n) (keeps r s g) ∙ e) rest
 
-pub found_later : (ds : List Decision) (n : ℕ) (rows : List Row) → AreRising (λ (r : Row). r.number) rows → row_numbered n (rows_after ds rows) ≡ option_and_then (row_after ds) (row_numbered n rows)
+pub found_later : (ds : List Recorded) (n : ℕ) (rows : List Row) → AreRising (λ (r : Row). r.number) rows → row_numbered n (rows_after ds rows) ≡ option_and_then (row_after ds) (row_numbered n rows)
 found_later ds n rows up = ap (row_numbered n) (each_after ds rows) ∙ numbered_later (row_after ds) (λ r s is. (keys_after ds r s is).number) n rows up
 
-pub same_unmarked : (ds : List Decision) (r s : Row) → row_after ds r ≡ Some s → unmarked s ≡ unmarked r
+pub same_unmarked : (ds : List Recorded) (r s : Row) → row_after ds r ≡ Some s → unmarked s ≡ unmarked r
 same_unmarked ds r s is =
     let keys = keys_after ds r s is in
     (λ i. record { number = keys.number i; space = keys.space i; entry = keys.entry i; end = keys.end i; writer = None; readers = []; taker = None })
 
-pub left_unmarked : (ds : List Decision) (r : Row) → is_some (row_after ds r) ≡ true → Some (unmarked r) ≡ option_map unmarked (row_after ds r)
+pub left_unmarked : (ds : List Recorded) (r : Row) → is_some (row_after ds r) ≡ true → Some (unmarked r) ≡ option_map unmarked (row_after ds r)
 left_unmarked ds r is = at (row_after ds r) refl is where
   at : (o : Option Row) → row_after ds r ≡ o → is_some o ≡ true → Some (unmarked r) ≡ option_map unmarked o
   at None e k = absurd (cc)

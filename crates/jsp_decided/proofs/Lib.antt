@@ -1,5 +1,6 @@
 pub mod RowsAfter
 pub mod Ending
+pub mod Resetting
 pub mod Sparing
 pub mod Marks
 pub mod Flat

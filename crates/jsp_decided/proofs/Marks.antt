@@ -1,4 +1,4 @@
--- The marks that decisions leave.
+-- The marks that are left after what is recorded.
 use Rattle.std.proofs.Common.{◌≡◌, ℕ, zero, suc, ◌+◌, ◌<◌, Bool, true, false, not, cond, ◌&&◌, ◌||◌, eqb, List, [], ◌∷◌, length, take, get_or, Option, Some, None, option_and_then, refl, ap, sym, ◌∙◌, subst}
 use Rattle.std.specs.Prelude.{filter, fold, option_map, nat_lt, ◌==◌}
 use Rattle.std.specs.Option.{option_map_or}
@@ -15,27 +15,30 @@ use Rattle.jsp_model.specs.Changes.{unread}
 use Rattle.jsp_model.specs.Sight.{is_free, is_take, readable}
 use Rattle.jsp_sight.specs.Rows.{settled, undone, wanted, offered, held, shows}
 use Rattle.jsp_sight.specs.declared.deciding.Decision.{Decision}
+use Rattle.jsp_decided.specs.declared.recorded.Recorded.{Recorded}
+use Rattle.jsp_decided.specs.declared.recorded.Recorded.TheVariants.{Decided, Reset}
 use Rattle.jsp_index.specs.Changing.{HasSameKeys}
 use Rattle.jsp_sight.specs.Deciding.{fate, committed_row, aborted_row}
+use Rattle.jsp_decided.specs.Recording.{space_of, becomes}
 use Rattle.jsp_index.proofs.Revisions.{eqb_same}
 use Rattle.jsp_decided.specs.Decided.{row_after}
 use Rattle.jsp_decided.specs.declared.after.Left.{Left}
 use Rattle.jsp_decided.specs.Left.{marks_of, left_by, is_over, reads_alone, is_readable}
-use Rattle.jsp_decided.proofs.RowsAfter.{some_row, fate_keys}
+use Rattle.jsp_decided.proofs.RowsAfter.{some_row, fate_keys, elsewhere}
 
-abbrev next : Option Row → Decision → Option Row
-next o d = option_and_then (fate d) o
+abbrev next : Option Row → Recorded → Option Row
+next o d = option_and_then (becomes d) o
 
-pub none_stays : (ds : List Decision) → fold next None ds ≡ None
+pub none_stays : (ds : List Recorded) → fold next None ds ≡ None
 none_stays [] = refl
 none_stays (d ∷ ds) = none_stays ds
 
 -- ---- one decision more
 
-more_after : (ds : List Decision) (i : ℕ) (d : Decision) (row : Row) → i < length ds → row_after (take (i + 1) ds) row ≡ option_and_then (fate (get_or ds i d)) (row_after (take i ds) row)
+more_after : (ds : List Recorded) (i : ℕ) (d : Recorded) (row : Row) → i < length ds → row_after (take (i + 1) ds) row ≡ option_and_then (becomes (get_or ds i d)) (row_after (take i ds) row)
 more_after ds i d row lt = ap (λ ds. row_after ds row) (take_more ds i d lt) ∙ fold_push next (Some row) (take i ds) (get_or ds i d)
 
-gone_from : (ds : List Decision) (k : ℕ) (o : Option Row) → fold next o (take k ds) ≡ None → fold next o ds ≡ None
+gone_from : (ds : List Recorded) (k : ℕ) (o : Option Row) → fold next o (take k ds) ≡ None → fold next o ds ≡ None
 gone_from [] k o h = at k h where
   at : (k : ℕ) → fold next o (take k []) ≡ None → o ≡ None
   at zero g = g
@@ -43,15 +46,15 @@ gone_from [] k o h = at k h where
 gone_from (d ∷ ds) zero o h = subst (λ o. fold next o (d ∷ ds) ≡ None) (sym h) (none_stays (d ∷ ds))
 gone_from (d ∷ ds) (suc k) o h = gone_from ds k (next o d) h
 
-pub gone_after : (ds : List Decision) (k : ℕ) (row : Row) → row_after (take k ds) row ≡ None → row_after ds row ≡ None
+pub gone_after : (ds : List Recorded) (k : ℕ) (row : Row) → row_after (take k ds) row ≡ None → row_after ds row ≡ None
 gone_after ds k row h = gone_from ds k (Some row) h
 
 -- ---- what the row keeps
 
-pub keys_after : (ds : List Decision) (r s : Row) → row_after ds r ≡ Some s → HasSameKeys r s
+pub keys_after : (ds : List Recorded) (r s : Row) → row_after ds r ≡ Some s → HasSameKeys r s
 keys_after [] r s is = subst (HasSameKeys r) (some_row is) (record { number = refl; space = refl; entry = refl; end = refl })
-keys_after (d ∷ ds) r s is = at (fate d r) refl is (keys_after ds) where
-  at : (o : Option Row) → fate d r ≡ o → fold next o ds ≡ Some s → ((r s : Row) → row_after ds r ≡ Some s → HasSameKeys r s) → HasSameKeys r s
+keys_after (d ∷ ds) r s is = at (becomes d r) refl is (keys_after ds) where
+  at : (o : Option Row) → becomes d r ≡ o → fold next o ds ≡ Some s → ((r s : Row) → row_after ds r ≡ Some s → HasSameKeys r s) → HasSameKeys r s
   at None e g rest = absurd (cc (g, none_stays ds))
   at (Some q) e g rest =
       let first = fate_keys d r q e in
@@ -60,8 +63,9 @@ keys_after (d ∷ ds) r s is = at (fate d r) refl is (keys_after ds) where
 
 -- ---- its marks
 
-left_there : (d : Decision) (r : Row) → eqb r.space d.space ≡ true → option_map marks_of (fate d r) ≡ left_by d (marks_of r)
-left_there d r here = rw here (at d.commits (is_caller r.taker d.transaction) refl (is_caller r.writer d.transaction) refl) where
+left_there : (d : Recorded) (r : Row) → eqb r.space (space_of d) ≡ true → option_map marks_of (becomes d r) ≡ left_by d (marks_of r)
+left_there (Reset space) r here = ap (λ b. option_map marks_of (cond b None (Some r))) here
+left_there (Decided d) r here = ap (λ b. option_map marks_of (cond b (cond d.commits (committed_row d.transaction r) (aborted_row d.transaction r)) (Some r))) here ∙ at d.commits (is_caller r.taker d.transaction) refl (is_caller r.writer d.transaction) refl where
   at : (k t : Bool) → is_caller r.taker d.transaction ≡ t → (w : Bool) → is_caller r.writer d.transaction ≡ w
       → option_map marks_of (cond k (committed_row d.transaction r) (aborted_row d.transaction r)) ≡ cond k (cond (is_caller r.taker d.transaction) None (Some (record { writer = cond (is_caller r.writer d.transaction) None r.writer; taker = r.taker })))
       (cond (is_caller r.writer d.transaction) None (Some (record { writer = r.writer; taker = cond (is_caller r.taker d.transaction) None r.taker })))
@@ -72,18 +76,20 @@ left_there d r here = rw here (at d.commits (is_caller r.taker d.transaction) re
   at false true e false f = rw (e, f) refl
   at false false e false f = rw (e, f) refl
 
-marks_once : (d : Decision) (o : Option Row) (row : Row) (left : Left) → option_map marks_of o ≡ Some left → ((s : Row) → o ≡ Some s → s.space ≡ row.space) → option_map marks_of (option_and_then (fate d) o) ≡ cond (eqb row.space d.space) (left_by d left) (Some left)
+marks_once : (d : Recorded) (o : Option Row) (row : Row) (left : Left) → option_map marks_of o ≡ Some left → ((s : Row) → o ≡ Some s → s.space ≡ row.space) → option_map marks_of (option_and_then (becomes d) o) ≡ cond (eqb row.space (space_of d)) (left_by d left) (Some left)
 marks_once d None row left is same = absurd (cc)
-marks_once d (Some s) row left is same = at (eqb s.space d.space) refl where
+marks_once d (Some s) row left is same = at (eqb s.space (space_of d)) refl where
   some_left : {a b : Left} → Some a ≡ Some b → a ≡ b
   some_left e = cc
 
-  at : (b : Bool) → eqb s.space d.space ≡ b → option_map marks_of (fate d s) ≡ cond (eqb row.space d.space) (left_by d left) (Some left)
-  at true e = left_there d s e ∙ (ap (left_by d) (some_left is) ∙ (rw (ap (λ k. eqb k d.space) (sym (same s refl)) ∙ e) refl))
-  at false e = rw (e, ap (λ k. eqb k d.space) (sym (same s refl)) ∙ e) is
+  at : (b : Bool) → eqb s.space (space_of d) ≡ b → option_map marks_of (becomes d s) ≡ cond (eqb row.space (space_of d)) (left_by d left) (Some left)
+  at true e = left_there d s e ∙ (ap (left_by d) (some_left is) ∙ (rw (ap (λ k. eqb k (space_of d)) (sym (same s refl)) ∙ e) refl))
+  at false e =
+      let away : eqb row.space (space_of d) ≡ false = ap (λ k. eqb k (space_of d)) (sym (same s refl)) ∙ e in
+      ap (option_map marks_of) (elsewhere d s e) ∙ (is ∙ ap (λ b. cond b (left_by d left) (Some left)) (sym away))
 
-pub marks_more : (ds : List Decision) (i : ℕ) (d : Decision) (row : Row) (left : Left) → i < length ds → option_map marks_of (row_after (take i ds) row) ≡ Some left
-    → option_map marks_of (row_after (take (i + 1) ds) row) ≡ cond (eqb row.space (get_or ds i d).space) (left_by (get_or ds i d) left) (Some left)
+pub marks_more : (ds : List Recorded) (i : ℕ) (d : Recorded) (row : Row) (left : Left) → i < length ds → option_map marks_of (row_after (take i ds) row) ≡ Some left
+    → option_map marks_of (row_after (take (i + 1) ds) row) ≡ cond (eqb row.space (space_of (get_or ds i d))) (left_by (get_or ds i d) left) (Some left)
 marks_more ds i d row left lt is =
     ap (option_map marks_of) (more_after ds i d row lt) ∙ marks_once (get_or ds i d) (row_after (take i ds) row) row left is (λ s there. (keys_after (take i ds) row s there).space)
 
@@ -125,7 +131,22 @@ readers_there d r s here is = at d.commits (is_caller r.taker d.transaction) (is
   at false t true g = absurd (cc)
   at false t false g = ap (λ (r : Row). r.readers) (sym (some_row g)) ∙ undone_readers d.transaction r
 
-pub readers_after : (c : ℕ → Bool) (ds : List Decision) (r s : Row) → row_after ds r ≡ Some s → list_all (λ y. c y || is_over ds r.space y) r.readers ≡ list_all c s.readers
+-- of the readers that one record more leaves
+readers_split : (c : ℕ → Bool) (d : Recorded) (ds : List Recorded) (r q : Row) → becomes d r ≡ Some q → list_all (λ y. c y || is_over (d ∷ ds) r.space y) r.readers ≡ list_all (λ y. c y || is_over ds r.space y) q.readers
+readers_split c (Reset space) ds r q e = at (eqb r.space space) e where
+  at : (b : Bool) → cond b None (Some r) ≡ Some q → list_all (λ y. c y || is_over ds r.space y) r.readers ≡ list_all (λ y. c y || is_over ds r.space y) q.readers
+  at true g = absurd (cc)
+  at false g = ap (λ (k : Row). list_all (λ y. c y || is_over ds r.space y) k.readers) (some_row g)
+readers_split c (Decided d) ds r q e = split (eqb r.space d.space) refl where
+  split : (b : Bool) → eqb r.space d.space ≡ b → list_all (λ y. c y || is_over (Decided d ∷ ds) r.space y) r.readers ≡ list_all (λ y. c y || is_over ds r.space y) q.readers
+  split true here =
+      ap (λ b. list_all (λ y. c y || ((b && eqb d.transaction y) || is_over ds r.space y)) r.readers) (eqb_same d.space r.space ∙ here)
+      ∙ (sym (readers_filtered c (is_over ds r.space) d.transaction r.readers) ∙ ap (list_all (λ y. c y || is_over ds r.space y)) (sym (readers_there d r q here e)))
+  split false away =
+      ap (λ b. list_all (λ y. c y || ((b && eqb d.transaction y) || is_over ds r.space y)) r.readers) (eqb_same d.space r.space ∙ away)
+      ∙ ap (λ (k : Row). list_all (λ y. c y || is_over ds r.space y) k.readers) (some_row (ap (λ b. cond b (cond d.commits (committed_row d.transaction r) (aborted_row d.transaction r)) (Some r)) (sym away) ∙ e))
+
+pub readers_after : (c : ℕ → Bool) (ds : List Recorded) (r s : Row) → row_after ds r ≡ Some s → list_all (λ y. c y || is_over ds r.space y) r.readers ≡ list_all c s.readers
 readers_after c [] r s is = ap (list_all (λ y. c y || false)) (ap (λ (r : Row). r.readers) (some_row is)) ∙ none s.readers where
   or_false : (b : Bool) → (b || false) ≡ b
   or_false true = refl
@@ -134,18 +155,11 @@ readers_after c [] r s is = ap (list_all (λ y. c y || false)) (ap (λ (r : Row)
   none : (ys : List ℕ) → list_all (λ y. c y || false) ys ≡ list_all c ys
   none [] = refl
   none (y ∷ ys) = rw (or_false (c y)) (ap (λ w. c y && w) (none ys))
-readers_after c (d ∷ ds) r s is = at (fate d r) refl is (readers_after c ds) where
-  at : (o : Option Row) → fate d r ≡ o → fold next o ds ≡ Some s → ((r s : Row) → row_after ds r ≡ Some s → list_all (λ y. c y || is_over ds r.space y) r.readers ≡ list_all c s.readers)
+readers_after c (d ∷ ds) r s is = at (becomes d r) refl is (readers_after c ds) where
+  at : (o : Option Row) → becomes d r ≡ o → fold next o ds ≡ Some s → ((r s : Row) → row_after ds r ≡ Some s → list_all (λ y. c y || is_over ds r.space y) r.readers ≡ list_all c s.readers)
       → list_all (λ y. c y || is_over (d ∷ ds) r.space y) r.readers ≡ list_all c s.readers
   at None e g rest = absurd (cc (g, none_stays ds))
-  at (Some q) e g rest = split (eqb r.space d.space) refl ∙ (ap (λ k. list_all (λ y. c y || is_over ds k y) q.readers) (sym (fate_keys d r q e).space) ∙ rest q s g) where
-    split : (b : Bool) → eqb r.space d.space ≡ b → list_all (λ y. c y || is_over (d ∷ ds) r.space y) r.readers ≡ list_all (λ y. c y || is_over ds r.space y) q.readers
-    split true here =
-        ap (λ b. list_all (λ y. c y || ((b && eqb d.transaction y) || is_over ds r.space y)) r.readers) (eqb_same d.space r.space ∙ here)
-        ∙ (sym (readers_filtered c (is_over ds r.space) d.transaction r.readers) ∙ ap (list_all (λ y. c y || is_over ds r.space y)) (sym (readers_there d r q here e)))
-    split false away =
-        ap (λ b. list_all (λ y. c y || ((b && eqb d.transaction y) || is_over ds r.space y)) r.readers) (eqb_same d.space r.space ∙ away)
-        ∙ ap (λ (k : Row). list_all (λ y. c y || is_over ds r.space y) k.readers) (some_row (ap (λ b. cond b (cond d.commits (committed_row d.transaction r) (aborted_row d.transaction r)) (Some r)) (sym away) ∙ e))
+  at (Some q) e g rest = readers_split c d ds r q e ∙ (ap (λ k. list_all (λ y. c y || is_over ds k y) q.readers) (sym (fate_keys d r q e).space) ∙ rest q s g)
 
 -- ---- what is asked of the row
 
@@ -155,7 +169,7 @@ by_marks (Some s) left is P h = h s refl (some_left is) where
   some_left : {a b : Left} → Some a ≡ Some b → a ≡ b
   some_left e = cc
 
-module _ (ds : List Decision) (row : Row) (left : Left) (is : option_map marks_of (row_after ds row) ≡ Some left) where
+module _ (ds : List Recorded) (row : Row) (left : Left) (is : option_map marks_of (row_after ds row) ≡ Some left) where
   pub in_after : (space : ℕ) → eqb row.space space ≡ option_map_or (λ (r : Row). r.space == space) (row_after ds row) false
   in_after space = by_marks (row_after ds row) left is (λ o. eqb row.space space ≡ option_map_or (λ (r : Row). r.space == space) o false) (λ s there marks. ap (λ k. eqb k space) (sym (keys_after ds row s there).space))
 

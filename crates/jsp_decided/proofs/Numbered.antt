@@ -8,8 +8,9 @@ use Rattle.jsp_model.specs.declared.state.Row.{Row}
 use Rattle.jsp_model.specs.Lookup.{is_caller, contains as has}
 use Rattle.jsp_model.specs.Changes.{published, unread}
 use Rattle.jsp_sight.specs.Rows.{is_of, is_held, settled, undone}
-use Rattle.jsp_sight.specs.declared.deciding.Decision.{Decision}
-use Rattle.jsp_sight.specs.Deciding.{fate, rows_after}
+use Rattle.jsp_decided.specs.declared.recorded.Recorded.{Recorded}
+use Rattle.jsp_decided.specs.declared.recorded.Recorded.TheVariants.{Decided, Reset}
+use Rattle.jsp_decided.specs.Recording.{becomes, rows_after, is_of_other}
 use Rattle.jsp_table.specs.Finding.{AreNumbered as AreRising}
 use Rattle.jsp_table.specs.Places.{living}
 use Rattle.jsp_keyed.proofs.Placed.{any_numbered, only_numbered}
@@ -28,7 +29,7 @@ any_each : (p q : Row → Bool) → ((r : Row) → p r ≡ q r) → (rows : List
 any_each p q same [] = refl
 any_each p q same (r ∷ rows) = rw (same r) (ap (λ w. q r || w) (any_each p q same rows))
 
-named_later : (p : Row → Bool) (n : ℕ) (ds : List Decision) (r : Row) → passes_later (λ (r : Row). r.number == n && p r) ds r ≡ (r.number == n && passes_later p ds r)
+named_later : (p : Row → Bool) (n : ℕ) (ds : List Recorded) (r : Row) → passes_later (λ (r : Row). r.number == n && p r) ds r ≡ (r.number == n && passes_later p ds r)
 named_later p n ds r = at (row_after ds r) refl where
   and_false : (b : Bool) → false ≡ (b && false)
   and_false true = refl
@@ -39,7 +40,7 @@ named_later p n ds r = at (row_after ds r) refl where
   at (Some s) e = ap (λ k. k == n && p s) (keys_after ds r s e).number
 
 -- whether the row of a number passes later
-pub any_named_later : (p : Row → Bool) (n : ℕ) (ds : List Decision) (rows : List Row) → AreRising (λ (r : Row). r.number) rows → (o : Option Row) → o ≡ row_numbered n rows → option_map_or (passes_later p ds) o false ≡ list_any (λ (r : Row). r.number == n && p r) (rows_after ds rows)
+pub any_named_later : (p : Row → Bool) (n : ℕ) (ds : List Recorded) (rows : List Row) → AreRising (λ (r : Row). r.number) rows → (o : Option Row) → o ≡ row_numbered n rows → option_map_or (passes_later p ds) o false ≡ list_any (λ (r : Row). r.number == n && p r) (rows_after ds rows)
 any_named_later p n ds rows up o is =
     any_numbered (λ (r : Row). r.number) n (passes_later p ds) rows up o is
     ∙ (sym (any_each (passes_later (λ (r : Row). r.number == n && p r) ds) (λ (r : Row). r.number == n && passes_later p ds r) (named_later p n ds) rows) ∙ sym (any_later (λ (r : Row). r.number == n && p r) ds rows))
@@ -53,7 +54,7 @@ space_of_one (Some r) (Some s) e = ap (λ k. k ∷ []) (ap (λ (r : Row). r.spac
   some_row : {a b : Row} → Some a ≡ Some b → a ≡ b
   some_row h = cc
 
-pub spaces_later : (n : ℕ) (ds : List Decision) (rows : List Row) (o : Option Row) → AreNumbered rows → option_map unmarked o ≡ option_map unmarked (row_numbered n (rows_after ds rows))
+pub spaces_later : (n : ℕ) (ds : List Recorded) (rows : List Row) (o : Option Row) → AreNumbered rows → option_map unmarked o ≡ option_map unmarked (row_numbered n (rows_after ds rows))
     → map (λ (r : Row). r.space) (living (o ∷ [])) ≡ map (λ (r : Row). r.space) (filter (λ (r : Row). r.number == n) (rows_after ds rows))
 spaces_later n ds rows o up is =
     space_of_one o (row_numbered n (rows_after ds rows)) is ∙ ap (map (λ (r : Row). r.space)) (sym (only_numbered (λ (r : Row). r.number) n (rows_after ds rows) (rising_after ds rows up) (row_numbered n (rows_after ds rows)) refl))
@@ -83,16 +84,16 @@ module _ (x : ℕ) (space : Option ℕ) (ns : List ℕ) where
   same_space None r s e = refl
   same_space (Some k) r s e = ap (λ m. m == k) e
 
-  keeps : (d : Decision) (r s : Row) → fate d r ≡ Some s → is_named r ≡ true → is_named s ≡ true
+  keeps : (d : Recorded) (r s : Row) → becomes d r ≡ Some s → is_named r ≡ true → is_named s ≡ true
   keeps d r s is k =
       let keys = fate_keys d r s is in
       ap (λ b. not (b && is_held x s) || has ns s.number) (same_space space r s keys.space)
       ∙ less (is_of space r) (is_held x r) (is_held x s) (held_before x d r s is) (has ns r.number) (has ns s.number) (ap (has ns) (sym keys.number)) k
 
-  pub held_later : (ds : List Decision) (rows : List Row) → list_all is_named rows ≡ true → list_all is_named (rows_after ds rows) ≡ true
+  pub held_later : (ds : List Recorded) (rows : List Row) → list_all is_named rows ≡ true → list_all is_named (rows_after ds rows) ≡ true
   held_later ds rows h = of_all is_named (rows_after ds rows) (all_after (λ r. is_named r ≡ true) keeps ds rows (all_of is_named rows h))
 
--- what its commit publishes, after decisions of others
+-- what its commit publishes, after the ends of others
 module _ (x : ℕ) where
   unless : (m : Option ℕ) (y : ℕ) → eqb y x ≡ false → is_caller m y ≡ true → is_caller m x ≡ false
   unless None y ne is = absurd (cc)
@@ -110,8 +111,12 @@ module _ (x : ℕ) where
     at true e = sym (unless r.taker y ne e)
     at false e = refl
 
-  same_published : (d : Decision) → not (d.transaction == x) ≡ true → (r s : Row) → fate d r ≡ Some s → (is_caller s.writer x && not (is_caller s.taker x)) ≡ (is_caller r.writer x && not (is_caller r.taker x))
-  same_published d other r s is = at (eqb r.space d.space) d.commits (is_caller r.taker d.transaction) (is_caller r.writer d.transaction) is where
+  same_published : (d : Recorded) → is_of_other x d ≡ true → (r s : Row) → becomes d r ≡ Some s → (is_caller s.writer x && not (is_caller s.taker x)) ≡ (is_caller r.writer x && not (is_caller r.taker x))
+  same_published (Reset space) other r s is = at (eqb r.space space) is where
+    at : (b : Bool) → cond b None (Some r) ≡ Some s → (is_caller s.writer x && not (is_caller s.taker x)) ≡ (is_caller r.writer x && not (is_caller r.taker x))
+    at true g = absurd (cc)
+    at false g = ap (λ (r : Row). is_caller r.writer x && not (is_caller r.taker x)) (sym (some_row g))
+  same_published (Decided d) other r s is = at (eqb r.space d.space) d.commits (is_caller r.taker d.transaction) (is_caller r.writer d.transaction) is where
     ne : eqb d.transaction x ≡ false
     ne = not-true (eqb d.transaction x) other
 
@@ -125,8 +130,8 @@ module _ (x : ℕ) where
     at true false t false g = ap (λ (r : Row). is_caller r.writer x && not (is_caller r.taker x)) (sym (some_row g)) ∙ both (ap (λ o. is_caller o x) (undone_writer d.transaction r)) (undone_taker d.transaction r ne)
     at false k t w g = ap (λ (r : Row). is_caller r.writer x && not (is_caller r.taker x)) (sym (some_row g))
 
-  pub published_later : (ds : List Decision) (rows : List Row) → list_all (λ (d : Decision). not (d.transaction == x)) ds ≡ true → rows_after ds (published x rows) ≡ published x (rows_after ds rows)
-  published_later ds rows others = filter_each (λ (r : Row). is_caller r.writer x && not (is_caller r.taker x)) (λ d. not (d.transaction == x) ≡ true) same_published ds rows (all_others ds others) where
-    all_others : (ds : List Decision) → list_all (λ (d : Decision). not (d.transaction == x)) ds ≡ true → AllByRecursion (λ (d : Decision). not (d.transaction == x) ≡ true) ds
+  pub published_later : (ds : List Recorded) (rows : List Row) → list_all (is_of_other x) ds ≡ true → rows_after ds (published x rows) ≡ published x (rows_after ds rows)
+  published_later ds rows others = filter_each (λ (r : Row). is_caller r.writer x && not (is_caller r.taker x)) (λ d. is_of_other x d ≡ true) same_published ds rows (all_others ds others) where
+    all_others : (ds : List Recorded) → list_all (is_of_other x) ds ≡ true → AllByRecursion (λ (d : Recorded). is_of_other x d ≡ true) ds
     all_others [] h = tt
-    all_others (d ∷ ds) h = let parts = and_both (not (d.transaction == x)) (list_all (λ (d : Decision). not (d.transaction == x)) ds) h in (parts.0, all_others ds parts.1)
+    all_others (d ∷ ds) h = let parts = and_both (is_of_other x d) (list_all (is_of_other x) ds) h in (parts.0, all_others ds parts.1)

@@ -9,8 +9,8 @@ use Rattle.jsp_model.specs.declared.state.Blocked.{Blocked}
 use Rattle.jsp_model.specs.declared.state.MatchSet.{MatchSet}
 use Rattle.jsp_model.specs.Lookup.{is_caller}
 use Rattle.jsp_sight.specs.Rows.{offered, held, shows}
-use Rattle.jsp_sight.specs.declared.deciding.Decision.{Decision}
-use Rattle.jsp_sight.specs.Deciding.{rows_after, covers}
+use Rattle.jsp_decided.specs.declared.recorded.Recorded.{Recorded}
+use Rattle.jsp_decided.specs.Recording.{rows_after, covers}
 use Rattle.jsp_index.proofs.Covering.{eqb_eq}
 use Rattle.jsp_decided.proofs.RowsAfter.{seen_after}
 use Rattle.jsp_decided.proofs.Marks.{keys_after}
@@ -42,14 +42,14 @@ any_filled p (r ∷ rows) = at (p r) (any_filled p rows) where
   at true rest = refl
   at false rest = rest
 
-any_two : (p : Row → Bool) (us vs : List Row) → filter p us ≡ filter p vs → list_any p us ≡ list_any p vs
+pub any_two : (p : Row → Bool) (us vs : List Row) → filter p us ≡ filter p vs → list_any p us ≡ list_any p vs
 any_two p us vs e = any_filled p us ∙ (ap is_filled e ∙ sym (any_filled p vs))
 
 -- one passes later where one does now
-pub any_seen : (p : Row → Bool) (space : ℕ) (within : (r : Row) → p r ≡ true → r.space ≡ space) (ds : List Decision) (rows : List Row) → covers ds space ≡ false → list_any p rows ≡ list_any p (rows_after ds rows)
+pub any_seen : (p : Row → Bool) (space : ℕ) (within : (r : Row) → p r ≡ true → r.space ≡ space) (ds : List Recorded) (rows : List Row) → covers ds space ≡ false → list_any p rows ≡ list_any p (rows_after ds rows)
 any_seen p space within ds rows none = any_two p rows (rows_after ds rows) (sym (seen_after p space within ds rows none))
 
-pub count_later : (p : Row → Bool) (ds : List Decision) (rows : List Row) → length (filter p (rows_after ds rows)) ≡ length (filter (passes_later p ds) rows)
+pub count_later : (p : Row → Bool) (ds : List Recorded) (rows : List Row) → length (filter p (rows_after ds rows)) ≡ length (filter (passes_later p ds) rows)
 count_later p ds rows =
     sym (length-map (filter p (rows_after ds rows)) (λ (r : Row). r.number))
     ∙ (ap (λ (w : List ℕ). length w) (passing_later (λ (r : Row). r.number) (λ ds r s is. (keys_after ds r s is).number) p ds rows) ∙ length-map (filter (passes_later p ds) rows) (λ (r : Row). r.number))

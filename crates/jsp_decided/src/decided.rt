@@ -7,27 +7,33 @@ ghost use Rattle.jsp_model.specs.Lookup.{update, contains as has};
 ghost use Rattle.jsp_model.specs.Changes.{aborted, committed, release as released};
 ghost use Rattle.jsp_sight.specs.Rows.{row_ending, with_reader, taken_row};
 ghost use Rattle.jsp_index.specs.Numbered.{AreNumbered};
-ghost use Rattle.jsp_sight.specs.Deciding.{covers as is_covered, rows_after};
+ghost use Rattle.jsp_decided.specs.Recording.{space_of, covers as is_covered, rows_after};
 ghost use Rattle.jsp_decided.specs.Decided.{rows_of, without_first};
 
-use crate::pending::{are_numbers_uncovered, are_uncovered, covers, place_of};
+use crate::pending::{are_numbers_uncovered, are_uncovered, covers, is_cleared, place_of};
+use crate::recorded::{Recorded, all_of, apply, apply_some};
 use jsp_index::HintedRows;
 use jsp_model::{Row, Vote};
-use jsp_sight::Decision;
 use jsp_types::{NoMemory, Text, Value};
 use std::alloc::Global;
 
-/// How many decisions may be left to apply where another is recorded: what asks for a row by its number,
-/// or for what a commit publishes, goes through all of them.
+/// How much may be left to apply where more is recorded: what asks for a row by its number, or for what a
+/// commit publishes, goes through all of it.
 const MOST: usize = 256;
 
-/// The rows of all spaces, and the decisions that they don't show yet.
+/// How many rows of a space are changed at most, for one record, in one part.
+const MOST_ROWS: usize = 128;
+
+/// How many records a space applies at most in one part.
+const MOST_RECORDS: usize = 4;
+
+/// The rows of all spaces, and what is recorded and they don't show yet.
 #[derive(Drop)]
 pub struct DecidedRows {
     alloc: Global,
     pub(crate) stored: HintedRows,
-    /// In the order in which they were made.
-    pub(crate) decisions: Vec<Decision>,
+    /// In the order in which it happened.
+    pub(crate) recorded: Vec<Recorded>,
 }
 
 impl DecidedRows {
@@ -38,7 +44,7 @@ impl DecidedRows {
         DecidedRows {
             alloc,
             stored: HintedRows::new(alloc, seed),
-            decisions: Vec::new(alloc),
+            recorded: Vec::new(alloc),
         }
     }
 
@@ -79,11 +85,22 @@ impl DecidedRows {
         self.stored.remove_all(numbers);
     }
 
-    /// The rows of a space go.
+    /// The rows of a space go. That is recorded, or done at once where memory for that is refused.
     pub fn clear(&mut self, space: u64)
         ensures { rows_of self.new ≡ filter (λ r. not (r.space == space)) (rows_of self.old) }
     {
-        self.stored.clear(space);
+        self.keep_few();
+        if let Err(_) = self.record_reset(space) {
+            self.stored.clear(space);
+        }
+    }
+
+    fn record_reset(&mut self, space: u64) -> Result<(), NoMemory>
+        ensures ok { OnOk result (rows_of self.new ≡ filter (λ r. not (r.space == space)) (rows_of self.old)) }
+        ensures err { OnErr result (rows_of self.new ≡ rows_of self.old) }
+    {
+        self.recorded.push(Recorded::Reset(space))?;
+        Ok(())
     }
 
     // ---- what is learned
@@ -128,7 +145,7 @@ impl DecidedRows {
         self.record_beside(x, commits)
     }
 
-    /// While more decisions are left to apply than may be, the oldest is applied.
+    /// While more is left to apply than may be, the oldest is applied.
     fn keep_few(&mut self)
         ensures { rows_of self.new ≡ rows_of self.old }
     {
@@ -137,15 +154,15 @@ impl DecidedRows {
         }
     }
 
-    /// The space of the oldest decision, where there are more than may be.
+    /// The space of the oldest record, where there are more than may be.
     fn space_over_most(&self) -> Option<u64>
-        ensures { IfSome result (λ space. is_covered self.now.decisions.items space ≡ true) }
+        ensures { IfSome result (λ space. is_covered self.now.recorded.items space ≡ true) }
     {
-        if self.decisions.len() <= MOST {
+        if self.recorded.len() <= MOST {
             return None;
         }
-        let space = self.decisions[0].space;
-        if covers(&self.decisions, space) {
+        let space = self.recorded[0].space();
+        if covers(&self.recorded, space) {
             Some(space)
         } else {
             None
@@ -156,53 +173,93 @@ impl DecidedRows {
         ensures ok { OnOk result (rows_of self.new ≡ (if commits then committed x (rows_of self.old) else aborted x (rows_of self.old))) }
         ensures err { OnErr result (rows_of self.new ≡ rows_of self.old) }
     {
-        let mut decisions = self.stored.decisions(self.alloc, x, commits)?;
-        self.decisions.append(&mut decisions)?;
+        let decisions = self.stored.decisions(self.alloc, x, commits)?;
+        let mut ended = all_of(self.alloc, &decisions)?;
+        self.recorded.append(&mut ended)?;
         Ok(())
     }
 
-    // ---- decisions are applied. Nothing here takes memory.
+    // ---- what is recorded is applied. Nothing here takes memory.
 
-    /// The space applies the decision that was made first, of those that it hasn't applied.
+    /// The space applies what was recorded first, of what it hasn't applied.
     pub fn apply_first(&mut self, space: u64)
         ensures same { rows_of self.new ≡ rows_of self.old }
-        ensures less { self.new.decisions.items ≡ without_first space self.old.decisions.items }
+        ensures less { self.new.recorded.items ≡ without_first space self.old.recorded.items }
     {
-        let Some(place) = place_of(&self.decisions, space) else {
+        let Some(place) = place_of(&self.recorded, space) else {
             return;
         };
-        let decision = self.decisions.remove(place);
-        self.stored.apply(&decision);
+        let first = self.recorded.remove(place);
+        apply(&mut self.stored, &first);
     }
 
-    /// The same for so many of the decision's rows at most. Whether nothing is left of it; else further
-    /// calls go on.
+    /// The same for so many of its rows at most. Whether nothing is left of it; else further calls go on.
     pub fn apply_some(&mut self, space: u64, most: usize) -> bool
         ensures same { rows_of self.new ≡ rows_of self.old }
-        ensures less { self.new.decisions.items ≡ (if result then without_first space self.old.decisions.items else self.old.decisions.items) }
+        ensures less { self.new.recorded.items ≡ (if result then without_first space self.old.recorded.items else self.old.recorded.items) }
     {
-        let Some(place) = place_of(&self.decisions, space) else {
+        let Some(place) = place_of(&self.recorded, space) else {
             return true;
         };
-        let decision = self.decisions[place];
-        if !self.stored.apply_some(&decision, most) {
+        let first = self.recorded[place];
+        if !apply_some(&mut self.stored, &first, most) {
             return false;
         }
-        self.decisions.remove(place);
+        self.recorded.remove(place);
         true
     }
 
-    /// The space applies all decisions that it hasn't applied.
+    /// The space applies all that it hasn't applied.
     pub fn apply_in(&mut self, space: u64)
         ensures same { rows_of self.new ≡ rows_of self.old }
-        ensures others { self.new.decisions.items ≡ filter (λ d. not (d.space == space)) self.old.decisions.items }
+        ensures others { self.new.recorded.items ≡ filter (λ d. not (space_of d == space)) self.old.recorded.items }
     {
-        'decisions: while covers(&self.decisions, space) {
+        'recorded: while covers(&self.recorded, space) {
             self.apply_first(space);
         }
     }
 
-    /// While the first row to end, of those that are stored, is of a space that has decisions to apply,
+    /// The same, but where a reset is among it: then no row of the space is found anyway.
+    pub fn apply_unless_cleared(&mut self, space: u64)
+        ensures same { rows_of self.new ≡ rows_of self.old }
+    {
+        if !is_cleared(&self.recorded, space) {
+            self.apply_in(space);
+        }
+    }
+
+    /// The space applies some of what it hasn't applied, in a time that doesn't grow with how many rows that
+    /// changes. Whether it has applied all; else further calls go on.
+    pub fn apply_part(&mut self, space: u64) -> bool
+        ensures same { rows_of self.new ≡ rows_of self.old }
+        ensures all { OnTrue result (is_covered self.new.recorded.items space ≡ false) }
+    {
+        'records: for _ in 0..MOST_RECORDS {
+            if !covers(&self.recorded, space) {
+                return true;
+            }
+            if !self.apply_some(space, MOST_ROWS) {
+                return false;
+            }
+        }
+        false
+    }
+
+    /// The space applies some of it where the first row to end, of those that are stored, is of a space that
+    /// has something to apply. Whether it isn't.
+    pub fn apply_due_part(&mut self, time: u64) -> bool
+        ensures same { rows_of self.new ≡ rows_of self.old }
+    {
+        match self.space_due(time) {
+            None => true,
+            Some(space) => {
+                let _ = self.apply_part(space);
+                self.space_due(time).is_none()
+            }
+        }
+    }
+
+    /// While the first row to end, of those that are stored, is of a space that has something to apply,
     /// that space does. So `due` needs no look at all rows.
     pub fn apply_due(&mut self, time: u64)
         ensures same { rows_of self.new ≡ rows_of self.old }
@@ -213,9 +270,9 @@ impl DecidedRows {
     }
 
     /// The space of the row whose end has come and comes first, of those that are stored, if it has
-    /// decisions to apply.
+    /// something to apply.
     fn space_due(&self, time: u64) -> Option<u64>
-        ensures { IfSome result (λ space. is_covered self.now.decisions.items space ≡ true) }
+        ensures { IfSome result (λ space. is_covered self.now.recorded.items space ≡ true) }
     {
         match self.stored.due(time) {
             None => None,
@@ -224,12 +281,12 @@ impl DecidedRows {
     }
 
     fn space_pending(&self, number: u64) -> Option<u64>
-        ensures { IfSome result (λ space. is_covered self.now.decisions.items space ≡ true) }
+        ensures { IfSome result (λ space. is_covered self.now.recorded.items space ≡ true) }
     {
         match self.stored.get(number) {
             None => None,
             Some(row) => {
-                if covers(&self.decisions, row.space) {
+                if covers(&self.recorded, row.space) {
                     Some(row.space)
                 } else {
                     None
@@ -238,42 +295,42 @@ impl DecidedRows {
         }
     }
 
-    /// All decisions are applied.
+    /// All is applied.
     pub fn apply_all(&mut self)
         ensures same { self.new.stored ≡ rows_of self.old }
-        ensures none { self.new.decisions.items ≡ [] }
+        ensures none { self.new.recorded.items ≡ [] }
     {
-        apply_each(&mut self.stored, &self.decisions);
-        self.decisions.clear();
+        apply_each(&mut self.stored, &self.recorded);
+        self.recorded.clear();
     }
 
-    // ---- no decision is left that is about what is to change. Who applies what a space has pending before
+    // ---- nothing is left recorded of what is to change. Who applies what a space has pending before
     // anything is done there never waits for this.
 
     fn make_way_for(&mut self, rows: &[Row])
         ensures same { rows_of self.new ≡ rows_of self.old }
-        ensures none { AllByRecursion (λ (r : OfRow). is_covered self.new.decisions.items r.space ≡ false) rows.now }
+        ensures none { AllByRecursion (λ (r : OfRow). is_covered self.new.recorded.items r.space ≡ false) rows.now }
         ensures numbered { AreNumbered (self.old.stored ++ rows.now) → AreNumbered (self.new.stored ++ rows.now) }
     {
-        if !are_uncovered(&self.decisions, rows) {
+        if !are_uncovered(&self.recorded, rows) {
             self.apply_all();
         }
     }
 
     fn make_way_in(&mut self, space: u64)
         ensures same { rows_of self.new ≡ rows_of self.old }
-        ensures none { is_covered self.new.decisions.items space ≡ false }
+        ensures none { is_covered self.new.recorded.items space ≡ false }
     {
-        if covers(&self.decisions, space) {
+        if covers(&self.recorded, space) {
             self.apply_all();
         }
     }
 
     fn make_way_at(&mut self, numbers: &[u64])
         ensures same { rows_of self.new ≡ rows_of self.old }
-        ensures none { AllByRecursion (λ (r : OfRow). has numbers.now r.number ≡ true → is_covered self.new.decisions.items r.space ≡ false) self.new.stored }
+        ensures none { AllByRecursion (λ (r : OfRow). has numbers.now r.number ≡ true → is_covered self.new.recorded.items r.space ≡ false) self.new.stored }
     {
-        if !are_numbers_uncovered(&self.decisions, &self.stored, numbers) {
+        if !are_numbers_uncovered(&self.recorded, &self.stored, numbers) {
             self.apply_all();
         }
     }
@@ -314,10 +371,10 @@ impl DecidedRows {
     }
 }
 
-fn apply_each(stored: &mut HintedRows, decisions: &[Decision])
-    ensures { stored.new ≡ rows_after decisions.now stored.old }
+fn apply_each(stored: &mut HintedRows, recorded: &[Recorded])
+    ensures { stored.new ≡ rows_after recorded.now stored.old }
 {
-    'decisions: for decision in decisions {
-        stored.apply(decision);
+    'recorded: for one in recorded {
+        apply(stored, one);
     }
 }

@@ -8,35 +8,35 @@ ghost use Rattle.jsp_model.specs.declared.state.Row.{Row as OfRow};
 ghost use Rattle.jsp_model.specs.Lookup.{contains as has, is_caller as calls};
 ghost use Rattle.jsp_model.specs.Changes.{published as publishes};
 ghost use Rattle.jsp_sight.specs.Rows.{offered, offered_among, held, shows, row_end, entries_among, is_of, is_held};
-ghost use Rattle.jsp_sight.specs.Deciding.{covers as is_covered, rows_after};
+ghost use Rattle.jsp_decided.specs.Recording.{covers as is_covered, rows_after, is_of_other as is_other};
 ghost use Rattle.jsp_decided.specs.Decided.{rows_of, row_after, pending_in};
 ghost use Rattle.jsp_sight.specs.Rows.{unmarked};
 
 use crate::DecidedRows;
 use crate::after::left_after;
-use crate::pending::{are_numbers_uncovered, count_in, covers};
+use crate::pending::{are_numbers_uncovered, count_in, covers, is_cleared};
+use crate::recorded::{Recorded, apply_to_list};
 use crate::scanning::{any_at, count_at, last_at};
 use crate::tests::{ChangedBy, InConflict, InSpace, IsLeft, Offered, Shown, is_available};
 use jsp_index::HintedRows;
 use jsp_model::{Blocked, Item, MatchSet, Row};
-use jsp_scan::{ScannedRows, apply};
-use jsp_sight::Decision;
+use jsp_scan::ScannedRows;
 use jsp_types::{Classes, Entry, Items, NoMemory};
 use std::alloc::Global;
 
 impl DecidedRows {
-    /// How many decisions the space hasn't applied. Takes no memory.
+    /// How much the space hasn't applied of what is recorded. Takes no memory.
     pub fn pending(&self, space: u64) -> usize
-        ensures { result ≡ length (pending_in self.now.decisions.items space) }
+        ensures { result ≡ length (pending_in self.now.recorded.items space) }
     {
-        count_in(&self.decisions, space)
+        count_in(&self.recorded, space)
     }
 
     /// Whether any space has one that it hasn't applied.
     pub fn has_pending(&self) -> bool
-        ensures { result ≡ not (length self.now.decisions.items == 0) }
+        ensures { result ≡ not (length self.now.recorded.items == 0) }
     {
-        !self.decisions.is_empty()
+        !self.recorded.is_empty()
     }
 
     /// A plain copy of all rows.
@@ -44,7 +44,7 @@ impl DecidedRows {
         ensures { IfOk result (λ rows. rows ≡ rows_of self.now) }
     {
         let mut rows = self.stored.to_items(alloc)?;
-        apply_each(&mut rows.items, &self.decisions);
+        apply_each(&mut rows.items, &self.recorded);
         Ok(rows)
     }
 
@@ -65,7 +65,7 @@ impl DecidedRows {
         let _ = self.stored.places();
         match self.stored.get(number) {
             None => None,
-            Some(row) => left_of(&self.decisions, row),
+            Some(row) => left_of(&self.recorded, row),
         }
     }
 
@@ -85,7 +85,7 @@ impl DecidedRows {
         let _ = self.stored.places();
         match self.stored.get(number) {
             None => false,
-            Some(row) => match left_after(&self.decisions, row) {
+            Some(row) => match left_after(&self.recorded, row) {
                 None => false,
                 Some(left) => test(left.writer),
             },
@@ -114,7 +114,7 @@ impl DecidedRows {
         let _ = self.stored.places();
         match self.stored.get(number) {
             None => false,
-            Some(row) => is_available(&self.decisions, classes, blocked, row),
+            Some(row) => is_available(&self.recorded, classes, blocked, row),
         }
     }
 
@@ -126,7 +126,7 @@ impl DecidedRows {
         let _ = self.stored.places();
         match self.stored.get(number) {
             None => false,
-            Some(row) => is_available(&self.decisions, classes, blocked, row),
+            Some(row) => is_available(&self.recorded, classes, blocked, row),
         }
     }
 
@@ -134,7 +134,7 @@ impl DecidedRows {
     pub fn entries_of(&self, alloc: Global, numbers: &[u64]) -> Result<Items<Entry>, NoMemory>
         ensures { IfOk result (λ es. es ≡ entries_among numbers.now (rows_of self.now)) }
     {
-        if are_numbers_uncovered(&self.decisions, &self.stored, numbers) {
+        if are_numbers_uncovered(&self.recorded, &self.stored, numbers) {
             self.stored.entries_of(alloc, numbers)
         } else {
             self.plain(alloc)?.entries_of(alloc, numbers)
@@ -160,9 +160,9 @@ impl DecidedRows {
     pub fn published(&self, alloc: Global, x: u64) -> Result<Vec<Row>, NoMemory>
         ensures { IfOk result (λ v. v.items ≡ publishes x (rows_of self.now)) }
     {
-        if are_others(&self.decisions, x) {
+        if are_others(&self.recorded, x) {
             let mut rows = self.stored.published(alloc, x)?;
-            apply_each(&mut rows, &self.decisions);
+            apply_each(&mut rows, &self.recorded);
             Ok(rows)
         } else {
             self.plain(alloc)?.published(alloc, x)
@@ -182,8 +182,8 @@ impl DecidedRows {
         if self.has(item.number) {
             return Some(item);
         }
-        let decisions = self.decisions.as_slice();
-        self.stored.due_of(time, &IsLeft { decisions })
+        let recorded = self.recorded.as_slice();
+        self.stored.due_of(time, &IsLeft { recorded })
     }
 
     // ---- in a space
@@ -192,21 +192,30 @@ impl DecidedRows {
     pub fn count_in(&self, space: u64) -> usize
         ensures { result ≡ length (filter (λ r. r.space == space) (rows_of self.now)) }
     {
-        if covers(&self.decisions, space) {
-            let decisions = self.decisions.as_slice();
-            count_at(self.stored.places(), &InSpace { decisions, space })
+        if covers(&self.recorded, space) {
+            self.count_left(space)
         } else {
             self.stored.count_in(space)
         }
+    }
+
+    fn count_left(&self, space: u64) -> usize
+        ensures { result ≡ length (filter (λ r. r.space == space) (rows_of self.now)) }
+    {
+        if is_cleared(&self.recorded, space) {
+            return 0;
+        }
+        let recorded = self.recorded.as_slice();
+        count_at(self.stored.places(), &InSpace { recorded, space })
     }
 
     /// Whether the transaction wrote or took a row there.
     pub fn has_changed(&self, x: u64, space: u64) -> bool
         ensures { result ≡ list_any (λ r. r.space == space && (calls r.writer x || calls r.taker x)) (rows_of self.now) }
     {
-        if covers(&self.decisions, space) {
+        if covers(&self.recorded, space) {
             let test = ChangedBy {
-                decisions: &self.decisions,
+                recorded: &self.recorded,
                 transaction: x,
                 space,
             };
@@ -220,7 +229,7 @@ impl DecidedRows {
     pub fn has_none(&self, classes: &Classes, blocked: &Blocked) -> bool
         ensures { result ≡ (length (offered_among classes.now blocked.now (rows_of self.now)) == 0) }
     {
-        if covers(&self.decisions, blocked.space) {
+        if covers(&self.recorded, blocked.space) {
             self.count_offered(classes, blocked) == 0
         } else {
             self.stored.has_none(classes, blocked)
@@ -231,16 +240,25 @@ impl DecidedRows {
     pub fn has_conflict(&self, classes: &Classes, blocked: &Blocked) -> bool
         ensures { result ≡ list_any (held classes.now blocked.now) (rows_of self.now) }
     {
-        if covers(&self.decisions, blocked.space) {
-            let test = InConflict {
-                decisions: &self.decisions,
-                classes,
-                blocked,
-            };
-            any_at(self.stored.places(), &test)
+        if covers(&self.recorded, blocked.space) {
+            self.has_withheld(classes, blocked)
         } else {
             self.stored.has_conflict(classes, blocked)
         }
+    }
+
+    fn has_withheld(&self, classes: &Classes, blocked: &Blocked) -> bool
+        ensures { result ≡ list_any (held classes.now blocked.now) (rows_of self.now) }
+    {
+        if is_cleared(&self.recorded, blocked.space) {
+            return false;
+        }
+        let test = InConflict {
+            recorded: &self.recorded,
+            classes,
+            blocked,
+        };
+        any_at(self.stored.places(), &test)
     }
 
     /// The numbers of the first rows that the request may be given, as many as it asks for.
@@ -252,7 +270,7 @@ impl DecidedRows {
     ) -> Result<Items<u64>, NoMemory>
         ensures { IfOk result (λ ns. ns ≡ take blocked.now.most (offered_among classes.now blocked.now (rows_of self.now))) }
     {
-        if covers(&self.decisions, blocked.space) {
+        if covers(&self.recorded, blocked.space) {
             self.plain(alloc)?.choose(alloc, classes, blocked)
         } else {
             self.stored.choose(alloc, classes, blocked)
@@ -264,7 +282,7 @@ impl DecidedRows {
         ensures { result ≡ min blocked.now.most (length (offered_among classes.now blocked.now (rows_of self.now))) }
     {
         let most = blocked.most as usize;
-        if covers(&self.decisions, blocked.space) {
+        if covers(&self.recorded, blocked.space) {
             most.min(self.count_offered(classes, blocked))
         } else {
             self.stored.count_available(classes, blocked, most)
@@ -274,8 +292,11 @@ impl DecidedRows {
     fn count_offered(&self, classes: &Classes, blocked: &Blocked) -> usize
         ensures { result ≡ length (offered_among classes.now blocked.now (rows_of self.now)) }
     {
+        if is_cleared(&self.recorded, blocked.space) {
+            return 0;
+        }
         let test = Offered {
-            decisions: &self.decisions,
+            recorded: &self.recorded,
             classes,
             blocked,
         };
@@ -292,7 +313,7 @@ impl DecidedRows {
     ) -> Result<Items<Entry>, NoMemory>
         ensures { IfOk result (λ es. es ≡ map (λ row. row.entry) (take most (filter (shows classes.now set.now) (rows_of self.now)))) }
     {
-        if covers(&self.decisions, set.space) {
+        if covers(&self.recorded, set.space) {
             self.plain(alloc)?.entries_shown(alloc, classes, set, most)
         } else {
             self.stored.entries_shown(alloc, classes, set, most)
@@ -303,9 +324,9 @@ impl DecidedRows {
     pub fn last_shown(&self, classes: &Classes, set: &MatchSet, most: usize) -> Option<u64>
         ensures { result ≡ last_or None (map (λ row. row.number) (take most (filter (shows classes.now set.now) (rows_of self.now)))) }
     {
-        if covers(&self.decisions, set.space) {
+        if covers(&self.recorded, set.space) {
             let test = Shown {
-                decisions: &self.decisions,
+                recorded: &self.recorded,
                 classes,
                 set,
             };
@@ -319,9 +340,9 @@ impl DecidedRows {
     pub fn shows_more(&self, classes: &Classes, set: &MatchSet, most: usize) -> bool
         ensures { result ≡ nat_lt most (length (filter (shows classes.now set.now) (rows_of self.now))) }
     {
-        if covers(&self.decisions, set.space) {
+        if covers(&self.recorded, set.space) {
             let test = Shown {
-                decisions: &self.decisions,
+                recorded: &self.recorded,
                 classes,
                 set,
             };
@@ -342,26 +363,26 @@ fn shows_more(rows: &HintedRows, classes: &Classes, set: &MatchSet, most: usize)
 }
 
 /// The row, unless it goes.
-fn left_of<'a>(decisions: &[Decision], row: &'a Row) -> Option<&'a Row>
-    ensures { option_map unmarked (option_copied result) ≡ option_map unmarked (row_after decisions.now row.now) }
+fn left_of<'a>(recorded: &[Recorded], row: &'a Row) -> Option<&'a Row>
+    ensures { option_map unmarked (option_copied result) ≡ option_map unmarked (row_after recorded.now row.now) }
 {
-    match left_after(decisions, row) {
+    match left_after(recorded, row) {
         None => None,
         Some(_) => Some(row),
     }
 }
 
-/// Whether each decision is another transaction's.
-fn are_others(decisions: &[Decision], x: u64) -> bool
-    ensures { result ≡ list_all (λ d. not (d.transaction == x)) decisions.now }
+/// Whether none is the end of this transaction.
+fn are_others(recorded: &[Recorded], x: u64) -> bool
+    ensures { result ≡ list_all (is_other x) recorded.now }
 {
-    decisions.iter().all(|d| d.transaction != x)
+    recorded.iter().all(|one| one.is_of_other(x))
 }
 
-fn apply_each(rows: &mut Vec<Row>, decisions: &[Decision])
-    ensures { rows.new.items ≡ rows_after decisions.now rows.old.items }
+fn apply_each(rows: &mut Vec<Row>, recorded: &[Recorded])
+    ensures { rows.new.items ≡ rows_after recorded.now rows.old.items }
 {
-    'decisions: for decision in decisions {
-        apply(rows, decision);
+    'recorded: for one in recorded {
+        apply_to_list(rows, one);
     }
 }

@@ -21,7 +21,7 @@ pub(crate) fn apply_touched<T: Coming>(
     if !image.has_pending() {
         return;
     }
-    apply_in(image, owed);
+    apply_unless_cleared(image, owed);
     apply_due(alloc, image);
     if let Some(coming) = to_come {
         apply_coming(alloc, image, coming);
@@ -41,7 +41,7 @@ fn apply_step(alloc: Global, image: &mut LiveImage, step: &Step)
     ensures { image.new ≡ image.old }
 {
     match touches(alloc, image, step) {
-        Ok(spaces) => apply_in(image, spaces.as_slice()),
+        Ok(spaces) => apply_unless_cleared(image, spaces.as_slice()),
         Err(_) => image.apply_all(),
     }
 }
@@ -55,10 +55,19 @@ fn apply_coming<T: Coming>(alloc: Global, image: &mut LiveImage, coming: &T)
     }
 }
 
-pub(crate) fn apply_in(image: &mut LiveImage, spaces: &[u64])
+fn apply_in(image: &mut LiveImage, spaces: &[u64])
     ensures { image.new ≡ image.old }
 {
     'spaces: for space in spaces {
         image.apply_in(*space);
+    }
+}
+
+/// What these spaces were reset of isn't in the way of what only makes them quiet.
+pub(crate) fn apply_unless_cleared(image: &mut LiveImage, spaces: &[u64])
+    ensures { image.new ≡ image.old }
+{
+    'spaces: for space in spaces {
+        image.apply_unless_cleared(*space);
     }
 }

@@ -1,7 +1,7 @@
 //! How far the clock goes on at once.
 ghost use Rattle.std.specs.Prelude.{◌≡◌, ◌≤◌};
 
-use crate::applying::apply_in;
+use crate::applying::apply_unless_cleared;
 use crate::unquiet::first_unquiet_of;
 use jsp_audit::{first_end, touches};
 use jsp_core::LiveImage;
@@ -33,6 +33,6 @@ fn may_end(alloc: Global, image: &mut LiveImage, item: Item) -> bool
     let Ok(spaces) = touches(alloc, image, &Step::Due { item }) else {
         return true;
     };
-    apply_in(image, spaces.as_slice());
+    apply_unless_cleared(image, spaces.as_slice());
     first_unquiet_of(image, spaces.as_slice()).is_none()
 }

@@ -13,6 +13,7 @@
 #![tactic(auto)]
 
 mod acting;
+mod ahead;
 mod answering;
 mod applying;
 mod choosing;

@@ -121,7 +121,7 @@ fn quiet_space(
 }
 
 /// The step of a settle turn, if a transaction votes.
-fn settle_step(state: &Core) -> Option<Step>
+pub(crate) fn settle_step(state: &Core) -> Option<Step>
     ensures { result ≡ next_turn state.now }
 {
     match state.commits.as_slice().first() {

@@ -5,6 +5,7 @@ ghost use Rattle.jsp_quiet.specs.Steady.{IsSteady};
 ghost use Rattle.jsp_quiet.specs.Props.{IsSteady-prop};
 
 use crate::acting::{act, act_ready, make_ready};
+use crate::ahead::{apply_before, apply_before_turn};
 use crate::answering::{answer, close, next_waiting};
 use crate::clock::next_time;
 use crate::owing::{forget_owed, join};
@@ -273,6 +274,14 @@ impl<K> InParts for StateHouse<K> {
         );
         forget_owed(&mut self.latest, self.debt.as_slice());
         result
+    }
+
+    fn apply_before(&mut self, input: &Input) -> bool {
+        apply_before(self.alloc, &mut self.image, input)
+    }
+
+    fn apply_before_turn(&mut self) -> bool {
+        apply_before_turn(self.alloc, &mut self.image)
     }
 
     fn next_time(&mut self, reading: u64) -> u64 {

@@ -5,6 +5,7 @@
 //! Whoever owns a hall or steps drops them wherever it may fail, and each of these drops is proved.
 //! So one test owns them, and all else borrows them and holds for any house.
 use crate::spaces::{asked, not_stopped, two_spaces};
+use jsp_beside::InParts;
 use jsp_house::Hall;
 use jsp_model::{House, Input, Step};
 use std::alloc::Global;
@@ -110,6 +111,39 @@ fn commit_and_settle<H: Counted>(
     Ok([decided, house.counts()])
 }
 
+/// What is pending once a space of so many entries is reset.
+fn write_and_reset<H: Counted>(
+    alloc: Global,
+    house: &mut H,
+    count: u64,
+    log: &mut Vec<Step>,
+) -> Result<Pending, Fail> {
+    for number in 0..count {
+        let write = format!(in alloc;
+            r#"{{"id":10,"op":"write","space":"a","entry":{{"class":"Job","fields":{{"k":{number}}}}},"lease":1000}}"#
+        )?;
+        ask(alloc, house, 1, &write, log)?;
+    }
+    ask(
+        alloc,
+        house,
+        1,
+        r#"{"id":11,"op":"reset","space":"a"}"#,
+        log,
+    )?;
+    Ok(house.counts())
+}
+
+/// How many parts it takes until all is applied, of so many at most.
+fn parts_left<H: InParts>(house: &mut H, most: u32) -> u32 {
+    for parts in 0..most {
+        if house.apply_before_turn() {
+            return parts;
+        }
+    }
+    most
+}
+
 fn play<H: Counted>(
     alloc: Global,
     house: &mut H,
@@ -129,5 +163,19 @@ fn a_space_applies_what_was_decided_before_it_is_touched(rt: HostRuntime) -> Res
     let (read, settled) = play(alloc, &mut hall, &mut log)?;
     assert_eq!(rt; read, [(0, 0), (1, 1), (1, 0), (0, 0)]);
     assert_eq!(rt; settled, [(1, 0), (0, 0)]);
+    Ok(())
+}
+
+/// A part lets 128 rows go at most.
+#[test]
+fn entries_of_a_space_that_was_reset_go_in_parts(rt: HostRuntime) -> Result<(), Fail> {
+    let alloc = rt.alloc();
+    let mut hall = Hall::new(alloc, &two_spaces(alloc)?, 7)?;
+    let mut log = Vec::new(alloc);
+    begin(alloc, &mut hall, &mut log)?;
+    let reset = write_and_reset(alloc, &mut hall, 300, &mut log)?;
+    assert_eq!(rt; reset, (1, 0));
+    assert_eq!(rt; parts_left(&mut hall, 9), 2);
+    assert_eq!(rt; hall.counts(), (0, 0));
     Ok(())
 }

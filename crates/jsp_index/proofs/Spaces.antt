@@ -147,3 +147,11 @@ no_more_than_places (x ∷ places) = at x (no_more_than_places places) where
   at : (o : Option Row) → length (living places) ≤ length places → length (living (o ∷ places)) ≤ suc (length places)
   at None h = omega arith
   at (Some r) h = omega arith
+
+-- what is left is left still
+pub left_twice : (p : Row → Bool) (rows : List Row) → filter p (filter p rows) ≡ filter p rows
+left_twice p [] = refl
+left_twice p (r ∷ rows) = at (p r) refl (left_twice p rows) where
+  at : (b : Bool) → p r ≡ b → filter p (filter p rows) ≡ filter p rows → filter p (cond b (r ∷ filter p rows) (filter p rows)) ≡ cond b (r ∷ filter p rows) (filter p rows)
+  at true e rest = rw e (ap (λ w. r ∷ w) rest)
+  at false e rest = rest

@@ -113,6 +113,37 @@ impl HintedRows {
         self.rows.clear(space);
     }
 
+    /// So many rows of a space go at most. Whether none is left; else further calls go on.
+    pub fn clear_some(&mut self, space: u64, most: usize) -> bool
+        ensures same { filter (λ r. not (r.space == space)) self.new ≡ filter (λ r. not (r.space == space)) self.old }
+        ensures all { OnTrue result (self.new ≡ filter (λ r. not (r.space == space)) self.old) }
+    {
+        if most < self.rows.count_in(space) {
+            self.clear_first(space, most);
+            return false;
+        }
+        self.clear(space);
+        true
+    }
+
+    /// The first rows of a space go, so many.
+    fn clear_first(&mut self, space: u64, count: usize)
+        ensures { filter (λ r. not (r.space == space)) self.new ≡ filter (λ r. not (r.space == space)) self.old }
+    {
+        'rows: for _ in 0..count {
+            self.remove_first(space);
+        }
+    }
+
+    /// The first row of a space goes.
+    fn remove_first(&mut self, space: u64)
+        ensures { filter (λ r. not (r.space == space)) self.new ≡ filter (λ r. not (r.space == space)) self.old }
+    {
+        if let Some(number) = self.rows.first_in(space) {
+            self.remove(number);
+        }
+    }
+
     // ---- leave out and change. Nothing here takes memory.
 
     /// The transaction aborts: the rows that it wrote go, and so do its marks.

@@ -1,9 +1,9 @@
 //! Rows, found by number, by what their entries hold, and by end, and counted by space.
-ghost use Rattle.std.specs.Prelude.{◌≡◌, ◌==◌, ◌++◌, [], Bool, Some, not, if◌then◌else◌, filter, map, length, option_copied, OnOk, OnErr};
+ghost use Rattle.std.specs.Prelude.{◌≡◌, ◌==◌, ◌++◌, [], Bool, Some, not, if◌then◌else◌, filter, find, map, length, option_copied, option_map, OnOk, OnErr};
 ghost use Rattle.jsp_model.specs.declared.state.Row.{Row as OfRow};
 ghost use Rattle.jsp_sight.specs.Rows.{row_ending, with_reader};
 ghost use Rattle.jsp_table.specs.Places.{living};
-ghost use Rattle.jsp_index.specs.Finding.{row_numbered};
+ghost use Rattle.jsp_index.specs.Finding.{number, row_numbered};
 ghost use Rattle.jsp_index.specs.Numbered.{AreNumbered};
 ghost use Rattle.jsp_index.specs.Changing.{HasSameKeys};
 ghost use Rattle.jsp_index.specs.Passed.{is_open, AreListed};
@@ -152,6 +152,16 @@ impl KeyedRows {
         forget_with(&mut self.seen, &self.rows, row);
         self.shapes.remove(self.seed, row);
         self.rows.remove(number);
+    }
+
+    /// The number of the first row of a space.
+    pub(crate) fn first_in(&self, space: u64) -> Option<u64>
+        ensures found { result ≡ option_map number (find (λ r. r.space == space) self.now) }
+        ensures numbered { AreNumbered self.now }
+    {
+        // Which says that the numbers rise.
+        let _ = self.rows.places();
+        self.rows.first_number(&InSpace { space })
     }
 
     /// The rows of a space go. Takes no memory.

@@ -112,6 +112,21 @@ impl<H: InParts, A: Ledger, O: Ledger> Kept<H, A, O> {
         self.settle_part(most)
     }
 
+    /// Applies some of what was decided earlier where the input is acted next, in a time that doesn't
+    /// grow with how much that is. Whether nothing is left there; else the input's call takes longer.
+    pub fn apply_before(&mut self, input: &Input) -> bool
+        ensures { self.new ≡ self.old }
+    {
+        self.house.apply_before(input)
+    }
+
+    /// The same where the next settle turn is taken.
+    pub fn apply_before_turn(&mut self) -> bool
+        ensures { self.new ≡ self.old }
+    {
+        self.house.apply_before_turn()
+    }
+
     /// How far the clock is to go on towards a reading, so that ends come one at a time. Nothing
     /// changes.
     pub fn next_time(&mut self, reading: u64) -> u64

@@ -152,6 +152,9 @@ fn act_at<H: InParts, A: Ledger, O: Ledger>(
     if let Err(stopped) = went {
         return Err(stopped);
     }
+    if !kept.apply_before(&input) {
+        return Ok(Part::NotYet(input));
+    }
     match kept.make_ready_some(&input, STEPS_BEFORE) {
         Ok(()) => act_ready(kept, seat, input),
         Err(Why::EraFull) => Ok(Part::NotYet(input)),
@@ -200,6 +203,9 @@ fn clock_at<H: InParts, A: Ledger, O: Ledger>(
 fn settle_at<H: InParts, A: Ledger, O: Ledger>(
     kept: &mut Kept<H, A, O>,
 ) -> Result<Option<Settled>, Stopped> {
+    if !kept.apply_before_turn() {
+        return Ok(None);
+    }
     match kept.settle_some(STEPS) {
         Ok(settled) => Ok(Some(settled)),
         Err(stopped) if stopped.why == Why::EraFull => Ok(None),
@@ -323,7 +329,7 @@ impl<H: InParts, A: Ledger, O: Ledger> Floor<H, A, O> {
     fn go_on(&self, kept: &mut Kept<H, A, O>, reading: u64) -> Result<(), Stopped> {
         for _ in 0..MOST_ENDS {
             let now = self.time.load(Ordering::SeqCst);
-            if reading <= now {
+            if reading <= now || !kept.apply_before(&Input::Clock { time: reading }) {
                 break;
             }
             let time = kept.next_time(reading);

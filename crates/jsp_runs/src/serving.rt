@@ -3,7 +3,7 @@ ghost use Rattle.std.specs.Prelude.{◌≤◌};
 
 use crate::lines::{Lines, SOUND, Talk, Wire, door, frames};
 use crate::spaces::two_spaces;
-use crate::talks::{DECLARE, FINDS, QUIET, SPACES, WAITS};
+use crate::talks::{ASKS_ON, DECLARE, FINDS, QUIET, SPACES, WAITS};
 use crate::watch::{Answer, Dial, Held, Watch, watch_of};
 use jsp_floor::{Bounds, Closed, Ended, LineReport, run_house};
 use jsp_house::{RowsHouse, replay};
@@ -129,6 +129,20 @@ fn a_take_is_given_what_another_line_writes(rt: HostRuntime) -> Result<(), Fail>
     assert!(rt; !plays(&rt, rt.alloc(), 1, &held, None, &FINDS)?);
     assert!(rt; plays(&rt, rt.alloc(), ERA, &[], None, &WAITS)?);
     assert!(rt; !plays(&rt, rt.alloc(), 1, &[], None, &WAITS)?);
+    Ok(())
+}
+
+// While the gate holds a frame of a line, its answers to others' acts are written.
+#[test]
+fn a_line_is_written_to_while_its_frame_is_held(rt: HostRuntime) -> Result<(), Fail> {
+    let held = [Held {
+        session: 1,
+        nth: 3,
+        until: Answer { session: 1, nth: 2 },
+    }];
+    for _ in 0..100 {
+        assert!(rt; plays(&rt, rt.alloc(), ERA, &held, None, &ASKS_ON)?);
+    }
     Ok(())
 }
 

@@ -41,6 +41,17 @@ pub(crate) const FINDS: [Talk; 2] = [
     },
 ];
 
+// A write once the line that waits for it has had its first answer.
+const WRITES_LATER: Talk = Talk {
+    asks: &[DECLARE, WRITE],
+    answers: &[
+        r#"{"id":1,"ok":null}"#,
+        r#"{"id":2,"ok":{"lease":2,"ms":1000}}"#,
+    ],
+    first_read: Some(Answer { session: 1, nth: 1 }),
+    ..QUIET
+};
+
 // A take that waits until another line writes, and whose line ends no earlier than it is answered.
 pub(crate) const WAITS: [Talk; 2] = [
     Talk {
@@ -55,13 +66,23 @@ pub(crate) const WAITS: [Talk; 2] = [
         last_read: Some(Answer { session: 1, nth: 2 }),
         ..QUIET
     },
+    WRITES_LATER,
+];
+
+// The same, but its line asks for something more once the take is answered.
+pub(crate) const ASKS_ON: [Talk; 2] = [
     Talk {
-        asks: &[DECLARE, WRITE],
-        answers: &[
-            r#"{"id":1,"ok":null}"#,
-            r#"{"id":2,"ok":{"lease":2,"ms":1000}}"#,
+        asks: &[
+            r#"{"id":7,"op":"take","space":"a","template":null,"timeout":1000}"#,
+            r#"{"id":8,"op":"spaces"}"#,
+            r#"{"id":9,"op":"spaces"}"#,
         ],
-        first_read: Some(Answer { session: 1, nth: 1 }),
+        answers: &[
+            r#"{"id":8,"ok":["a","b"]}"#,
+            r#"{"id":7,"ok":{"class":"Job","fields":{"n":1}}}"#,
+            r#"{"id":9,"ok":["a","b"]}"#,
+        ],
         ..QUIET
     },
+    WRITES_LATER,
 ];

@@ -178,7 +178,7 @@ impl Rows {
 
     // ---- what is decided is applied. Nothing here takes memory.
 
-    /// How many decisions the space hasn't applied.
+    /// How many decisions the space hasn't applied, a reset among them.
     pub fn pending(&self, space: u64) -> usize {
         match &self.kept {
             Kept::Scanned(_) => 0,
@@ -194,7 +194,8 @@ impl Rows {
         }
     }
 
-    /// The space applies all decisions that it hasn't applied, which none of the other calls can tell.
+    /// The space applies all decisions that it hasn't applied, a reset too, which none of the other calls can
+    /// tell.
     pub fn apply_in(&mut self, space: u64)
         ensures { self.new ≡ self.old }
     {
@@ -204,14 +205,35 @@ impl Rows {
         }
     }
 
-    /// The space applies the first of them, to so many of its rows at most. Whether nothing is left of
-    /// it; else further calls go on.
-    pub fn apply_some(&mut self, space: u64, most: usize) -> bool
+    /// The same, but where the space was reset: then none of its rows is found anyway.
+    pub fn apply_unless_cleared(&mut self, space: u64)
+        ensures { self.new ≡ self.old }
+    {
+        match &mut self.kept {
+            Kept::Scanned(_) => {}
+            Kept::Hinted(rows) => rows.apply_unless_cleared(space),
+        }
+    }
+
+    /// The space applies some of them, in a time that doesn't grow with how many rows they change. Whether it
+    /// has applied all.
+    pub fn apply_part(&mut self, space: u64) -> bool
         ensures { self.new ≡ self.old }
     {
         match &mut self.kept {
             Kept::Scanned(_) => true,
-            Kept::Hinted(rows) => rows.apply_some(space, most),
+            Kept::Hinted(rows) => rows.apply_part(space),
+        }
+    }
+
+    /// The space of a row that ends by then and comes first applies some of them. Whether it has none to
+    /// apply.
+    pub fn apply_due_part(&mut self, time: u64) -> bool
+        ensures { self.new ≡ self.old }
+    {
+        match &mut self.kept {
+            Kept::Scanned(_) => true,
+            Kept::Hinted(rows) => rows.apply_due_part(time),
         }
     }
 

@@ -1,6 +1,6 @@
 use Rattle.std.proofs.Common.{◌≡◌, take}
-use Rattle.jsp_sight.specs.Deciding.{rows_after}
+use Rattle.jsp_decided.specs.Recording.{rows_after}
 use Rattle.jsp_decided.proofs.finding.apply_each.Given as goal
 
-abbrev pub invariant-decisions : goal.invariant-decisions
-invariant-decisions l = l.rows.items ≡ rows_after (take l.decision-index l.decisions) l.fn.rows.items
+abbrev pub invariant-recorded : goal.invariant-recorded
+invariant-recorded l = l.rows.items ≡ rows_after (take l.one-index l.recorded) l.fn.rows.items

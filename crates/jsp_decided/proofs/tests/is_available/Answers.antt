@@ -3,4 +3,4 @@ use Rattle.jsp_decided.proofs.Marks.{offered_after}
 use Rattle.jsp_decided.proofs.tests.is_available.Goals as goal
 
 pub returns-in-Some : goal.returns-in-Some
-returns-in-Some c = c.is_offered.ensures ∙ offered_after c.args.decisions.now c.args.row.now c.in-Some.left (sym c.in-Some.ensures) c.args.classes.now c.args.blocked.now
+returns-in-Some c = c.is_offered.ensures ∙ offered_after c.args.recorded.now c.args.row.now c.in-Some.left (sym c.in-Some.ensures) c.args.classes.now c.args.blocked.now

@@ -6,4 +6,4 @@ abbrev pub invariant-spaces : goal.invariant-spaces
 invariant-spaces l = rows_of l.self ≡ rows_of l.fn.self
 
 abbrev pub decreases-spaces : goal.decreases-spaces
-decreases-spaces l = length l.self.decisions.items
+decreases-spaces l = length l.self.recorded.items

@@ -1,38 +1,38 @@
 use Rattle.std.proofs.Common.{◌≡◌, Some, None, take, drop, get_or, suc, ap, sym, subst, ◌∙◌, ◌++◌}
 use Rattle.std.specs.Prelude.{position}
 use Rattle.std.specs.List.{filter_map}
-use Rattle.jsp_sight.specs.declared.deciding.Decision.{Decision}
-use Rattle.jsp_sight.specs.Deciding.{fate, rows_after}
+use Rattle.jsp_decided.specs.declared.recorded.Recorded.{Recorded}
+use Rattle.jsp_decided.specs.Recording.{becomes, rows_after}
 use Rattle.jsp_decided.proofs.RowsAfter.{is_about, first_applied, first_left_out, none_left_out}
 use Rattle.jsp_decided.proofs.decided.DecidedRows.apply_some.Goals as goal
 
 pub returns-in_default-clause-less : goal.returns-in_default-clause-less
-returns-in_default-clause-less c = none_left_out c.args.space c.args.self.now.decisions.items (sym (c.place_of.ensures ∙ ap (position (is_about c.args.space)) c.deref.ensures.value) ∙ c.in_default.is)
+returns-in_default-clause-less c = none_left_out c.args.space c.args.self.now.recorded.items (sym (c.place_of.ensures ∙ ap (position (is_about c.args.space)) c.deref.ensures.value) ∙ c.in_default.is)
 
 pub returns-then-not-apply_some-clause-same : goal.returns-then-not-apply_some-clause-same
 returns-then-not-apply_some-clause-same c =
-    let ds = c.args.self.now.decisions.items in
+    let ds = c.args.self.now.recorded.items in
     let stored = c.args.self.now.stored in
-    let new = c.apply_some.new.self in
+    let new = c.apply_some.new.stored in
     let first = c.index.result.now in
     let found : position (is_about c.args.space) ds ≡ Some c.in-Some.place = sym (c.place_of.ensures ∙ ap (position (is_about c.args.space)) c.deref.ensures.value) ∙ c.in-Some.is in
-    let same = subst (λ (d : Decision). filter_map (fate d) new ≡ filter_map (fate d) stored) c.index.ensures c.apply_some.ensures.same in
+    let same = subst (λ (d : Recorded). filter_map (becomes d) new ≡ filter_map (becomes d) stored) c.index.ensures c.apply_some.ensures.same in
     sym (first_applied c.args.space ds c.in-Some.place first new found)
     ∙ (ap (rows_after (take c.in-Some.place ds ++ drop (suc c.in-Some.place) ds)) same
     ∙ first_applied c.args.space ds c.in-Some.place first stored found)
 
 pub returns-clause-same : goal.returns-clause-same
 returns-clause-same c =
-    let ds = c.args.self.now.decisions.items in
+    let ds = c.args.self.now.recorded.items in
     let stored = c.args.self.now.stored in
     let found : position (is_about c.args.space) ds ≡ Some c.in-Some.place = sym (c.place_of.ensures ∙ ap (position (is_about c.args.space)) c.deref.ensures.value) ∙ c.in-Some.is in
     let left = take c.in-Some.place ds ++ drop (suc c.in-Some.place) ds in
-    ap (λ ds. rows_after ds c.apply_some.new.self) c.remove.ensures.items
-    ∙ (ap (rows_after left) (c.if-not-apply_some.ensures.all ∙ ap (λ (d : Decision). filter_map (fate d) stored) c.index.ensures)
+    ap (λ ds. rows_after ds c.apply_some.new.stored) c.remove.ensures.items
+    ∙ (ap (rows_after left) (c.if-not-apply_some.ensures.all ∙ ap (λ (d : Recorded). filter_map (becomes d) stored) c.index.ensures)
     ∙ first_applied c.args.space ds c.in-Some.place c.index.result.now stored found)
 
 pub returns-clause-less : goal.returns-clause-less
 returns-clause-less c =
-    let ds = c.args.self.now.decisions.items in
+    let ds = c.args.self.now.recorded.items in
     let found : position (is_about c.args.space) ds ≡ Some c.in-Some.place = sym (c.place_of.ensures ∙ ap (position (is_about c.args.space)) c.deref.ensures.value) ∙ c.in-Some.is in
     c.remove.ensures.items ∙ first_left_out c.args.space ds c.in-Some.place c.remove.result found

@@ -3,13 +3,13 @@ use Rattle.std.specs.List.{AllByRecursion}
 use Rattle.std.proofs.lemmas.Result.{IfOk-weaker}
 use Rattle.jsp_model.specs.declared.state.Row.{Row}
 use Rattle.jsp_model.specs.Lookup.{contains as has}
-use Rattle.jsp_sight.specs.Deciding.{covers}
+use Rattle.jsp_decided.specs.Recording.{covers}
 use Rattle.jsp_decided.proofs.RowsAfter.{fate_keys, spared_passing}
 use Rattle.jsp_decided.proofs.decided.DecidedRows.entries_of.Goals as goal
 
 pub returns-then-are_numbers_uncovered : goal.returns-then-are_numbers_uncovered
 returns-then-are_numbers_uncovered c =
-    let ds = c.args.self.now.decisions.items in
+    let ds = c.args.self.now.recorded.items in
     let stored = c.args.self.now.stored in
     let ns = c.args.numbers.now in
     let none : AllByRecursion (λ (r : Row). has ns r.number ≡ true → covers ds r.space ≡ false) stored =

@@ -8,11 +8,11 @@ use Rattle.jsp_decided.proofs.decided.DecidedRows.get.Goals as goal
 
 pub returns-in-None : goal.returns-in-None
 returns-in-None c =
-    let ds = c.args.self.now.decisions.items in
+    let ds = c.args.self.now.recorded.items in
     sym (ap (option_map unmarked) (found_later ds c.args.number c.args.self.now.stored c.places.ensures.numbered.rising ∙ ap (option_and_then (row_after ds)) (sym c.in-None.ensures)))
 
 pub returns-in-Some : goal.returns-in-Some
 returns-in-Some c =
-    let ds = c.args.self.now.decisions.items in
+    let ds = c.args.self.now.recorded.items in
     c.left_of.ensures ∙ (ap (λ ds. option_map unmarked (row_after ds c.in-Some.row.now)) c.deref.ensures.value
     ∙ sym (ap (option_map unmarked) (found_later ds c.args.number c.args.self.now.stored c.places.ensures.numbered.rising ∙ ap (option_and_then (row_after ds)) (sym c.in-Some.ensures))))

@@ -6,4 +6,4 @@ abbrev pub invariant-oldest : goal.invariant-oldest
 invariant-oldest l = rows_of l.self ≡ rows_of l.fn.self
 
 abbrev pub decreases-oldest : goal.decreases-oldest
-decreases-oldest l = length l.self.decisions.items
+decreases-oldest l = length l.self.recorded.items
