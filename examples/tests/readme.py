@@ -3,8 +3,8 @@
     python3 readme.py PROGRAM
 
 PROGRAM stands for `./jsp`, and the address that the server says for the one of the page. The lines of the session are
-typed, the blocks in Python and Java are run as they stand, and the commands too; what is Java where there is a JDK. It
-prints nothing where all ends as it should.
+typed, the blocks in Python, Java and JavaScript are run as they stand, and the commands too; what is Java where there is
+a JDK, and what is JavaScript where there is Node. It prints nothing where all ends as it should.
 """
 import os
 import re
@@ -18,6 +18,7 @@ ROOT = Path(__file__).parents[2]
 ADDRESS = "127.0.0.1:7070"
 SECONDS = 100
 HAS_JDK = shutil.which("javac") is not None
+HAS_NODE = shutil.which("node") is not None
 JAVA = """import java.util.Map;
 public class Readme {{
     public static void main(String[] args) throws Exception {{
@@ -47,7 +48,13 @@ class Page:
         self.program = program
         self.address = address
         self.classes = classes
-        self.kinds = {"text": self.type, "python": self.run_python, "java": self.run_java, "command": self.run_command}
+        self.kinds = {
+            "text": self.type,
+            "python": self.run_python,
+            "java": self.run_java,
+            "js": self.run_js,
+            "command": self.run_command,
+        }
 
     def with_own(self, text):
         own = {ADDRESS: self.address, "7070": self.address.rsplit(":", 1)[1], "./jsp": self.program}
@@ -73,12 +80,19 @@ class Page:
             run(["javac", "-d", self.classes, ROOT / "examples/clients/java/Jsp.java", source])
             run(["java", "-cp", self.classes, "Readme"])
 
+    def run_js(self, block):
+        if HAS_NODE:
+            client = (ROOT / "examples" / "clients" / "js" / "jsp.mjs").as_uri()
+            imports = f'import {{ Client, entry }} from "{client}";\n'
+            run(["node", "--input-type=module", "--eval", imports + self.with_own(block)])
+
     def run_command(self, command):
         # The server is there, and the session of the client that is typed stands behind its command.
         if " listen " in command or command == f"./jsp client {ADDRESS}":
             return
-        if HAS_JDK or not command.startswith("javac "):
-            run(["bash", "-c", self.with_own(command)])
+        if command.startswith("javac ") and not HAS_JDK or command.startswith("node ") and not HAS_NODE:
+            return
+        run(["bash", "-c", self.with_own(command)])
 
 
 def main(program):
