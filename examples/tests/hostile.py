@@ -168,12 +168,13 @@ def asks_now_and_then(address):
 
 
 def sends_what_is_refused(address):
-    """Six hundred requests of a megabyte, which are refused: the server keeps no more of them than an era holds."""
-    asked = {"id": 1, "op": "write", "space": "no such space", "entry": entry("Job", who="x" * 1_000_000), "lease": 1}
+    """Three thousand requests of a megabyte, which are refused: the server keeps no more of them than an era holds."""
+    large = entry("Job", who="x" * 1_000_000)
+    asked = frame(json.dumps({"id": 1, "op": "write", "space": "no such space", "entry": large, "lease": 1}).encode())
     with Client(*address) as jsp:
         jsp.socket.settimeout(SECONDS)
-        for _ in range(600):
-            jsp.socket.sendall(frame(json.dumps(asked).encode()))
+        for _ in range(3_000):
+            jsp.socket.sendall(asked)
             try:
                 jsp.wait(1)
                 raise AssertionError("a request was not refused")
@@ -196,8 +197,9 @@ def declares_what_a_frame_holds(address):
     is_served(address)
 
 
-def silent_listeners(address, count):
-    """So many clients are told of each entry and read nothing: their lines end, and who writes is served all the while."""
+def silent_listeners(address, count, writes):
+    """So many clients are told 1,024 times of each of so many writes and read nothing: their lines end, and who writes is
+    served all the while."""
     with contextlib.ExitStack() as clients:
         other, *listeners = [clients.enter_context(Client(*address)) for _ in range(count + 1)]
         for client in (other, *listeners):
@@ -207,10 +209,10 @@ def silent_listeners(address, count):
             for _ in range(16):
                 listener.notify("a", entry("Job"), lease=LONGEST)
         entries = [entry("Job", k=1)] * 64
-        for _ in range(600):
+        for _ in range(writes):
             other.call("write_all", space="a", entries=entries, lease=1)
         for listener in listeners:
-            assert 0 < heard(listener) < 16 * 64 * 600
+            assert 0 < heard(listener) < 16 * 64 * writes
     is_served(address)
 
 
@@ -226,12 +228,12 @@ def heard(listener):
 
 
 def never_reads_its_events(address):
-    silent_listeners(address, 1)
+    silent_listeners(address, 1, 1_000)
 
 
 def three_never_read_their_events(address):
     """The same acts bring too many answers for each of them."""
-    silent_listeners(address, 3)
+    silent_listeners(address, 3, 600)
 
 
 def is_granted_large_entries(address):
