@@ -47,17 +47,21 @@ one_less old new n (r ∷ rs) keeps h = at (eqb r.number n) refl (one_less old n
 
 -- ---- changes
 
+-- those that are owed one row more are named
+pub more_named : (old new : Hints) (hears : Registration → Bool) (n : ℕ) (rs : List Registration) → Keeps old new
+    → AllByRecursion (λ r. hears r ≡ true → names new r.space r.number ≡ true) rs → AreNamed old rs → AreNamed new (map (where_passed hears (owed_one n)) rs)
+more_named old new hears n rs keeps listed h =
+    changed_all (λ r. (hears r ≡ true → names new r.space r.number ≡ true) × IsNamed old r) (IsNamed new) (where_passed hears (owed_one n)) rs
+    (λ r two. at r (hears r) refl two.0 two.1)
+    (both (λ r. hears r ≡ true → names new r.space r.number ≡ true) (IsNamed old) (λ r. (hears r ≡ true → names new r.space r.number ≡ true) × IsNamed old r) rs listed h (λ r f g. (f, g))) where
+      at : (r : Registration) (b : Bool) → hears r ≡ b → (hears r ≡ true → names new r.space r.number ≡ true) → IsNamed old r → IsNamed new (cond b (owed_one n r) r)
+      at r true e f g = λ owed. f e
+      at r false e f g = λ owed. keeps r.space r.number (g owed)
+
 -- those to which the row is news are named
 pub owed_named : (old new : Hints) (classes : List Class) (caller : Option ℕ) (row : Row) (rs : List Registration) → Keeps old new
     → AllByRecursion (λ r. is_news classes caller r row ≡ true → names new r.space r.number ≡ true) rs → AreNamed old rs → AreNamed new (map (where_passed (λ r. is_news classes caller r row) (owed_one row.number)) rs)
-owed_named old new classes caller row rs keeps listed h =
-    let hears = λ (r : Registration). is_news classes caller r row in
-    changed_all (λ r. (hears r ≡ true → names new r.space r.number ≡ true) × IsNamed old r) (IsNamed new) (where_passed hears (owed_one row.number)) rs
-    (λ r two. at r (hears r) refl two.0 two.1)
-    (both (λ r. hears r ≡ true → names new r.space r.number ≡ true) (IsNamed old) (λ r. (hears r ≡ true → names new r.space r.number ≡ true) × IsNamed old r) rs listed h (λ r f g. (f, g))) where
-      at : (r : Registration) (b : Bool) → is_news classes caller r row ≡ b → (is_news classes caller r row ≡ true → names new r.space r.number ≡ true) → IsNamed old r → IsNamed new (cond b (owed_one row.number r) r)
-      at r true e f g = λ owed. f e
-      at r false e f g = λ owed. keeps r.space r.number (g owed)
+owed_named old new classes caller row rs keeps listed h = more_named old new (λ r. is_news classes caller r row) row.number rs keeps listed h
 
 -- a registration that is owed no more than before is named as before
 pub no_more_owed : (hints : Hints) (f : Registration → Registration) (rs : List Registration) → ((r : Registration) → IsNamed hints r → IsNamed hints (f r)) → AreNamed hints rs → AreNamed hints (map f rs)
@@ -78,13 +82,14 @@ at_its_space hints classes caller row r e h =
     let same = (and_both (r.space == row.space) (matches classes r.template row.entry) here).0 in
     subst (λ (s : ℕ). names hints s r.number ≡ true) (sym (eqb_eq r.space row.space same)) h
 
--- those to which a row is news are among the listeners, who are named at its space
-pub listeners_named : (hints : Hints) (classes : List Class) (caller : Option ℕ) (row : Row) (listeners : List ℕ) (rs : List Registration) → AllByRecursion (λ r. 0 < number r) rs
-    → AreNamedBy number (λ r. is_news classes caller r row) listeners rs → ((n : ℕ) → 0 < n → contains listeners n ≡ true → names hints row.space n ≡ true)
-    → AllByRecursion (λ r. is_news classes caller r row ≡ true → names hints r.space r.number ≡ true) rs
-listeners_named hints classes caller row listeners rs positive among named =
-    both (λ r. 0 < number r) (λ r. is_news classes caller r row ≡ true → contains listeners (number r) ≡ true) (λ r. is_news classes caller r row ≡ true → names hints r.space r.number ≡ true) rs positive among
-    (λ r up there e. at_its_space hints classes caller row r e (named r.number up (there e)))
+-- those that pass a test, to whom the row is news, are among the listeners, who are named at its space
+pub listeners_named : (hints : Hints) (classes : List Class) (caller : Option ℕ) (row : Row) (hears : Registration → Bool) (listeners : List ℕ) (rs : List Registration)
+    → ((r : Registration) → hears r ≡ true → is_news classes caller r row ≡ true) → AllByRecursion (λ r. 0 < number r) rs
+    → AreNamedBy number hears listeners rs → ((n : ℕ) → 0 < n → contains listeners n ≡ true → names hints row.space n ≡ true)
+    → AllByRecursion (λ r. hears r ≡ true → names hints r.space r.number ≡ true) rs
+listeners_named hints classes caller row hears listeners rs news positive among named =
+    both (λ r. 0 < number r) (λ r. hears r ≡ true → contains listeners (number r) ≡ true) (λ r. hears r ≡ true → names hints r.space r.number ≡ true) rs positive among
+    (λ r up there e. at_its_space hints classes caller row r (news r e) (named r.number up (there e)))
 
 -- ---- who is owed an event at a space
 

@@ -1,12 +1,13 @@
 -- What registrations are owed, and what is taken back.
-use Rattle.std.proofs.Common.{◌≡◌, ℕ, ◌+◌, ◌-◌, ◌<◌, Bool, List, [], ◌∷◌, ◌++◌, length, take, get_or, map, Option, refl, ap, sym, ◌∙◌, arith, append_assoc, length-append}
+use Rattle.std.proofs.Common.{◌≡◌, ℕ, ◌+◌, ◌-◌, ◌<◌, Bool, true, false, cond, ◌&&◌, List, [], ◌∷◌, ◌++◌, length, take, get_or, map, Option, Some, None, refl, ap, sym, ◌∙◌, arith, append_assoc, length-append}
 use Rattle.std.specs.Prelude.{filter}
 use Rattle.std.proofs.lemmas.List.{take_at, take_all, take_more, take-take, length-take-le, append-nil, map-append, length-map, map-id}
 use Rattle.std.proofs.lemmas.List.Elements.{filter-append}
 use Rattle.jsp_types.specs.declared.class.Class.{Class}
 use Rattle.jsp_model.specs.declared.state.Row.{Row}
 use Rattle.jsp_model.specs.declared.state.Registration.{Registration}
-use Rattle.jsp_notify.specs.Owing.{is_news, numbers_of_news, owed, forgiven}
+use Rattle.jsp_notify.specs.Owing.{is_news, is_within, numbers_of_news, owed, owed_one, owed_within, forgiven, forgiven_within}
+use Rattle.jsp_keyed.specs.Changing.{where_passed}
 
 pub map_twice : {X : Type 0} (f g h : X → X) → ((x : X) → f (g x) ≡ h x) → (xs : List X) → map f (map g xs) ≡ map h xs
 map_twice f g h same [] = refl
@@ -19,6 +20,19 @@ forgiven-owed classes caller rows r =
     let told = filter (is_news classes caller r) rows in
     let long : length r.owed ≡ length (r.owed ++ new) - length told = omega (arith, length-append r.owed new, length-map told (λ (w : Row). w.number)) in
     ap (λ w. record r { owed = w }) (take_at r.owed new (length (r.owed ++ new) - length told) long)
+
+-- of those within a range too
+same_range : (from : ℕ) (below : Option ℕ) (r : Registration) (w : List ℕ) → is_within from below (record r { owed = w }) ≡ is_within from below r
+same_range from None r w = refl
+same_range from (Some b) r w = refl
+
+pub forgiven-within : (classes : List Class) (caller : Option ℕ) (row : Row) (from : ℕ) (below : Option ℕ) (r : Registration) → forgiven_within classes caller row from below (owed_within classes caller row from below r) ≡ r
+forgiven-within classes caller row from below r = at (is_within from below r) refl where
+  at : (b : Bool) → is_within from below r ≡ b → forgiven_within classes caller row from below (cond b (owed classes caller (row ∷ []) r) r) ≡ r
+  at true e =
+      let q = owed classes caller (row ∷ []) r in
+      ap (λ c. cond c (forgiven classes caller (row ∷ []) q) q) (same_range from below r q.owed ∙ e) ∙ forgiven-owed classes caller (row ∷ []) r
+  at false e = ap (λ c. cond c (forgiven classes caller (row ∷ []) r) r) e
 
 -- what all were owed last
 pub all_forgiven : (classes : List Class) (caller : Option ℕ) (rows : List Row) (registrations : List Registration) → map (forgiven classes caller rows) (map (owed classes caller rows) registrations) ≡ registrations
@@ -77,3 +91,13 @@ none_forgiven classes caller (r ∷ rs) = same_lists (ap (λ (w : List ℕ). rec
 module _ (classes : List Class) (caller : Option ℕ) (row : Row) where
   abbrev pub hears : Registration → Bool
   hears r = is_news classes caller r row
+
+-- those within a range to which the row is news are owed it
+pub within_owed : (classes : List Class) (caller : Option ℕ) (row : Row) (from : ℕ) (below : Option ℕ) (rs : List Registration)
+    → map (where_passed (λ r. is_within from below r && is_news classes caller r row) (owed_one row.number)) rs ≡ map (owed_within classes caller row from below) rs
+within_owed classes caller row from below [] = refl
+within_owed classes caller row from below (r ∷ rs) = same_lists (at (is_within from below r) (is_news classes caller r row)) (within_owed classes caller row from below rs) where
+  at : (a b : Bool) → cond (a && b) (owed_one row.number r) r ≡ cond a (record r { owed = r.owed ++ map (λ (w : Row). w.number) (cond b (row ∷ []) []) }) r
+  at true true = refl
+  at true false = ap (λ (w : List ℕ). record r { owed = w }) (sym (append-nil r.owed))
+  at false b = refl

@@ -1,8 +1,9 @@
 -- What is told space by space.
 use Rattle.std.proofs.Common.{◌≡◌, ℕ, zero, suc, arith, ◌+◌, ◌-◌, ◌^◌, set, ◌<◌, ◌≤◌, Bool, true, false, not, cond, eqb, ◌&&◌, List, [], ◌∷◌, ◌++◌, length, drop, take, get_or, map, refl, ap, sym, subst, ◌∙◌, true≢false}
-use Rattle.std.specs.Prelude.{filter, sum_by, ◌==◌, ◌||◌, if◌then◌else◌, nat_le, Option}
+use Rattle.std.specs.Prelude.{filter, sum_by, ◌==◌, ◌||◌, if◌then◌else◌, nat_le, nat_lt, Option, Some, None}
 use Rattle.std.specs.List.{list_all, list_any}
 use Rattle.std.proofs.lemmas.Bool.{and_parts, and_from, or_parts, eqb-true, ne_eqb, leb-true, leb-false, le-leb}
+use Rattle.std.proofs.lemmas.Bool.Decides.{nat_tests}
 use Rattle.std.proofs.Math.Bool.{and-false}
 use Rattle.std.proofs.lemmas.List.{map-append, drop_all, drop_more, drop-drop, take-append-drop}
 use Rattle.std.proofs.lemmas.List.Sums.{sum_by-set}
@@ -15,8 +16,8 @@ use Rattle.jsp_model.specs.Sight.{is_free}
 use Rattle.jsp_table.specs.Counts.{count_of}
 use Rattle.jsp_notify.specs.declared.news.News.{News}
 use Rattle.jsp_model.specs.Lookup.{update}
-use Rattle.jsp_notify.specs.Owing.{is_news, numbers_of_news, owed}
-use Rattle.jsp_notify.specs.News.{all_told, hearing, is_behind, is_told, left_in, numbers_untold, owed_in, still_to_tell, told_next, untold}
+use Rattle.jsp_notify.specs.Owing.{is_news, is_within, numbers_of_news, owed, owed_within}
+use Rattle.jsp_notify.specs.News.{all_told, hearing, is_behind, is_told, left_in, numbers_untold, owed_in, still_to_tell, told_next, told_to, untold}
 use Rattle.jsp_notify.specs.Registered.{told_once}
 use Rattle.jsp_notify.proofs.Asked.{spaces_after}
 use Rattle.jsp_notify.proofs.Owed.{owed_parts, same_lists}
@@ -24,14 +25,16 @@ use Rattle.jsp_notify.proofs.Hearing.{heard_in_parts, map_same, none_heard, one_
 
 -- ---- who has heard all
 
-nothing_untold : (n : News) (space : ℕ) → is_told space n ≡ true → untold n space ≡ []
-nothing_untold n space told = drop_all (count_of n.told space) n.rows (leb-true (length n.rows) (count_of n.told space) told)
+nothing_untold : (n : News) (r : Registration) → is_told r.space n ≡ true → untold n r ≡ []
+nothing_untold n r told =
+    let all : length n.rows ≤ count_of n.told r.space = leb-true (length n.rows) (count_of n.told r.space) told in
+    drop_all (told_to n r) n.rows (omega (arith, all))
 
 none_left : (news : List News) (r : Registration) → all_told news r.space ≡ true → numbers_untold news r ≡ []
 none_left [] r told = refl
 none_left (n ∷ ns) r told =
     let parts = and_parts (is_told r.space n) (all_told ns r.space) told in
-    rw (nothing_untold n r.space parts.0) (none_left ns r parts.1)
+    rw (nothing_untold n r parts.0) (none_left ns r parts.1)
 
 pub all_is_heard : (news : List News) (r : Registration) → all_told news r.space ≡ true → hearing news r ≡ r
 all_is_heard news r told = ap (λ (w : List ℕ). record r { owed = r.owed ++ w }) (none_left news r told) ∙ none_heard r
@@ -45,39 +48,38 @@ elsewhere classes caller r w apart =
     ap (λ (b : Bool). record r { owed = r.owed ++ map (λ (w : Row). w.number) (cond b (w ∷ []) []) }) none ∙ none_heard r
 
 -- a row of the space is owed there
-owed_here : (n : News) (w : Row) (space : ℕ) → w.space ≡ space → (r : Registration) → owed n.classes n.caller (w ∷ []) r ≡ owed_in n (w ∷ []) space r
-owed_here n w space here r = at (eqb r.space space) refl where
-  at : (b : Bool) → (r.space == space) ≡ b → owed n.classes n.caller (w ∷ []) r ≡ cond b (owed n.classes n.caller (w ∷ []) r) r
-  at true e = refl
-  at false e = elsewhere n.classes n.caller r w (ap (λ k. r.space == k) here ∙ e)
+owed_here : (n : News) (w : Row) (space from : ℕ) (below : Option ℕ) → w.space ≡ space → (r : Registration) → owed_within n.classes n.caller w from below r ≡ owed_in n (w ∷ []) space from below r
+owed_here n w space from below here r = at (eqb r.space space) refl (is_within from below r) where
+  at : (b : Bool) → (r.space == space) ≡ b → (c : Bool) → cond c (owed n.classes n.caller (w ∷ []) r) r ≡ cond b (cond c (owed n.classes n.caller (w ∷ []) r) r) r
+  at true e c = refl
+  at false e true = elsewhere n.classes n.caller r w (ap (λ k. r.space == k) here ∙ e)
+  at false e false = refl
 
 -- and another isn't
-owed_nowhere : (n : News) (w : Row) (space : ℕ) → (w.space ≡ space → ⊥) → (r : Registration) → r ≡ owed_in n (w ∷ []) space r
-owed_nowhere n w space apart r = at (eqb r.space space) refl where
-  at : (b : Bool) → (r.space == space) ≡ b → r ≡ cond b (owed n.classes n.caller (w ∷ []) r) r
-  at true e = sym (elsewhere n.classes n.caller r w (ne_eqb r.space w.space (λ same. apart (sym same ∙ eqb-true r.space space e))))
-  at false e = refl
+owed_nowhere : (n : News) (w : Row) (space from : ℕ) (below : Option ℕ) → (w.space ≡ space → ⊥) → (r : Registration) → r ≡ owed_in n (w ∷ []) space from below r
+owed_nowhere n w space from below apart r = at (eqb r.space space) refl (is_within from below r) where
+  at : (b : Bool) → (r.space == space) ≡ b → (c : Bool) → r ≡ cond b (cond c (owed n.classes n.caller (w ∷ []) r) r) r
+  at true e true = sym (elsewhere n.classes n.caller r w (ne_eqb r.space w.space (λ same. apart (sym same ∙ eqb-true r.space space e))))
+  at true e false = refl
+  at false e c = refl
 
 one_row : (rows : List Row) (t : ℕ) (w : Row) → t < length rows → w ≡ get_or rows t w → take 1 (drop t rows) ≡ w ∷ []
 one_row rows t w some is = ap (take 1) (drop_more rows t w some) ∙ ap (λ (v : Row). v ∷ []) (sym is)
 
-pub row_owed : (n : News) (t : ℕ) (w : Row) (space : ℕ) → t < length n.rows → w ≡ get_or n.rows t w → w.space ≡ space → (rs : List Registration)
-    → map (owed n.classes n.caller (take ((t + 1) - t) (drop t n.rows))) rs ≡ map (owed_in n (take 1 (drop t n.rows)) space) rs
-row_owed n t w space some is here rs =
-    let one : (t + 1) - t ≡ 1 = omega arith in
-    ap (λ (k : ℕ). map (owed n.classes n.caller (take k (drop t n.rows))) rs) one
-    ∙ (ap (λ (ws : List Row). map (owed n.classes n.caller ws) rs) (one_row n.rows t w some is)
-    ∙ (map_same (owed n.classes n.caller (w ∷ [])) (owed_in n (w ∷ []) space) (owed_here n w space here) rs
-    ∙ ap (λ (ws : List Row). map (owed_in n ws space) rs) (sym (one_row n.rows t w some is))))
+pub row_owed : (n : News) (t : ℕ) (w : Row) (space from : ℕ) (below : Option ℕ) → t < length n.rows → w ≡ get_or n.rows t w → w.space ≡ space → (rs : List Registration)
+    → map (owed_within n.classes n.caller w from below) rs ≡ map (owed_in n (take 1 (drop t n.rows)) space from below) rs
+row_owed n t w space from below some is here rs =
+    map_same (owed_within n.classes n.caller w from below) (owed_in n (w ∷ []) space from below) (owed_here n w space from below here) rs
+    ∙ ap (λ (ws : List Row). map (owed_in n ws space from below) rs) (sym (one_row n.rows t w some is))
 
 mapped : {X : Type 0} (f : X → X) → ((x : X) → x ≡ f x) → (xs : List X) → xs ≡ map f xs
 mapped f same [] = refl
 mapped f same (x ∷ xs) = same_lists (same x) (mapped f same xs)
 
-pub row_passed : (n : News) (t : ℕ) (w : Row) (space : ℕ) → t < length n.rows → w ≡ get_or n.rows t w → (w.space ≡ space → ⊥) → (rs : List Registration)
-    → rs ≡ map (owed_in n (take 1 (drop t n.rows)) space) rs
-row_passed n t w space some is apart rs =
-    mapped (owed_in n (w ∷ []) space) (owed_nowhere n w space apart) rs ∙ ap (λ (ws : List Row). map (owed_in n ws space) rs) (sym (one_row n.rows t w some is))
+pub row_passed : (n : News) (t : ℕ) (w : Row) (space from : ℕ) (below : Option ℕ) → t < length n.rows → w ≡ get_or n.rows t w → (w.space ≡ space → ⊥) → (rs : List Registration)
+    → rs ≡ map (owed_in n (take 1 (drop t n.rows)) space from below) rs
+row_passed n t w space from below some is apart rs =
+    mapped (owed_in n (w ∷ []) space from below) (owed_nowhere n w space from below apart) rs ∙ ap (λ (ws : List Row). map (owed_in n ws space from below) rs) (sym (one_row n.rows t w some is))
 
 -- ---- one news told further, behind others that the space has heard
 
@@ -94,69 +96,197 @@ told_behind space told new (suc i) (m ∷ ns) d some before apart one r =
     ∙ (ap (hearing (set ns i new)) (apart m parts.0 r)
     ∙ (told_behind space told new i ns d (omega (arith, some)) parts.1 apart one (hearing (m ∷ []) r) ∙ sym (heard_in_parts (m ∷ []) ns r)))
 
-owed_apart : (n : News) (rows : List Row) (space : ℕ) (m : News) → is_told space m ≡ true → (r : Registration) → hearing (m ∷ []) (owed_in n rows space r) ≡ owed_in n rows space (hearing (m ∷ []) r)
-owed_apart n rows space m told r = at (eqb r.space space) refl where
-  at : (b : Bool) → (r.space == space) ≡ b → hearing (m ∷ []) (cond b (owed n.classes n.caller rows r) r) ≡ cond b (owed n.classes n.caller rows (hearing (m ∷ []) r)) (hearing (m ∷ []) r)
-  at true e =
+same_range : (from : ℕ) (below : Option ℕ) (r : Registration) (w : List ℕ) → is_within from below r ≡ is_within from below (record r { owed = w })
+same_range from None r w = refl
+same_range from (Some b) r w = refl
+
+owed_apart : (n : News) (rows : List Row) (space from : ℕ) (below : Option ℕ) (m : News) → is_told space m ≡ true → (r : Registration) → hearing (m ∷ []) (owed_in n rows space from below r) ≡ owed_in n rows space from below (hearing (m ∷ []) r)
+owed_apart n rows space from below m told r = at (eqb r.space space) refl (is_within from below r) (is_within from below (hearing (m ∷ []) r)) (same_range from below r (hearing (m ∷ []) r).owed) where
+  at : (b : Bool) → (r.space == space) ≡ b → (c d : Bool) → c ≡ d
+      → hearing (m ∷ []) (cond b (cond c (owed n.classes n.caller rows r) r) r) ≡ cond b (cond d (owed n.classes n.caller rows (hearing (m ∷ []) r)) (hearing (m ∷ []) r)) (hearing (m ∷ []) r)
+  at true e true true f =
       let here : all_told (m ∷ []) r.space ≡ true = and_from (is_told r.space m) true (ap (λ k. is_told k m) (eqb-true r.space space e) ∙ told) refl in
       all_is_heard (m ∷ []) (owed n.classes n.caller rows r) here ∙ ap (owed n.classes n.caller rows) (sym (all_is_heard (m ∷ []) r here))
-  at false e = refl
+  at true e true false f = absurd (cc)
+  at true e false true f = absurd (cc)
+  at true e false false f = refl
+  at false e c d f = refl
 
-next_heard : (n new : News) (space : ℕ) → new ≡ record n { told = new.told }
-    → ((k : ℕ) → count_of new.told k ≡ (if k == space then count_of n.told k + 1 else count_of n.told k))
-    → (r : Registration) → hearing (new ∷ []) (told_next n space r) ≡ hearing (n ∷ []) r
-next_heard n new space rest counts r =
-    subst (λ (m : News). hearing (m ∷ []) (told_next n space r) ≡ hearing (n ∷ []) r) (sym rest)
-    (one_heard (record n { told = new.told }) (told_next n space r) ∙ (at (eqb r.space space) refl (counts r.space) ∙ sym (one_heard n r)))
-  where
-    at : (b : Bool) → (r.space == space) ≡ b → count_of new.told r.space ≡ cond b (count_of n.told r.space + 1) (count_of n.told r.space)
-        → owed n.classes n.caller (drop (count_of new.told (cond b (owed n.classes n.caller (take 1 (untold n space)) r) r).space) n.rows) (cond b (owed n.classes n.caller (take 1 (untold n space)) r) r)
-        ≡ owed n.classes n.caller (untold n r.space) r
-    at true e c =
-        let here : r.space ≡ space = eqb-true r.space space e in
-        let first = take 1 (untold n space) in
-        let t = count_of n.told r.space in
-        let rest : drop (count_of new.told r.space) n.rows ≡ drop 1 (drop t n.rows) = ap (λ (k : ℕ). drop k n.rows) c ∙ sym (drop-drop 1 t n.rows) in
-        let heads : first ≡ take 1 (drop t n.rows) = ap (λ (k : ℕ). take 1 (untold n k)) (sym here) in
-        ap (λ (ws : List Row). owed n.classes n.caller ws (owed n.classes n.caller first r)) rest
-        ∙ (ap (λ (ws : List Row). owed n.classes n.caller (drop 1 (drop t n.rows)) (owed n.classes n.caller ws r)) heads
-        ∙ (sym (owed_parts n.classes n.caller (take 1 (drop t n.rows)) (drop 1 (drop t n.rows)) r)
-        ∙ ap (λ (ws : List Row). owed n.classes n.caller ws r) (take-append-drop 1 (drop t n.rows))))
-    at false e c = ap (λ (k : ℕ). owed n.classes n.caller (drop k n.rows) r) c
+-- the next row is told, and then the rest
+went_on : (n new : News) (t : ℕ) (r : Registration) → new ≡ record n { told = new.told; reached = new.reached } → told_to n r ≡ t → told_to new r ≡ t + 1
+    → hearing (new ∷ []) (owed n.classes n.caller (take 1 (drop t n.rows)) r) ≡ hearing (n ∷ []) r
+went_on n new t r rest was is =
+    let first = take 1 (drop t n.rows) in
+    let q = owed n.classes n.caller first r in
+    subst (λ (m : News). hearing (m ∷ []) q ≡ hearing (n ∷ []) r) (sym rest)
+    (one_heard (record n { told = new.told; reached = new.reached }) q
+    ∙ (ap (λ (k : ℕ). owed n.classes n.caller (drop k n.rows) q) is
+    ∙ (ap (λ (ws : List Row). owed n.classes n.caller ws q) (sym (drop-drop 1 t n.rows))
+    ∙ (sym (owed_parts n.classes n.caller first (drop 1 (drop t n.rows)) r)
+    ∙ (ap (λ (ws : List Row). owed n.classes n.caller ws r) (take-append-drop 1 (drop t n.rows))
+    ∙ (ap (λ (k : ℕ). owed n.classes n.caller (drop k n.rows) r) (sym was) ∙ sym (one_heard n r)))))))
 
-same_heard : (n new : News) → new ≡ record n { told = new.told } → ((k : ℕ) → count_of new.told k ≡ count_of n.told k) → (r : Registration) → hearing (new ∷ []) r ≡ hearing (n ∷ []) r
-same_heard n new rest counts r =
+stayed : (n new : News) (r : Registration) → new ≡ record n { told = new.told; reached = new.reached } → told_to new r ≡ told_to n r → hearing (new ∷ []) r ≡ hearing (n ∷ []) r
+stayed n new r rest same =
     subst (λ (m : News). hearing (m ∷ []) r ≡ hearing (n ∷ []) r) (sym rest)
-    (one_heard (record n { told = new.told }) r ∙ (ap (λ (k : ℕ). owed n.classes n.caller (drop k n.rows) r) (counts r.space) ∙ sym (one_heard n r)))
+    (one_heard (record n { told = new.told; reached = new.reached }) r ∙ (ap (λ (k : ℕ). owed n.classes n.caller (drop k n.rows) r) same ∙ sym (one_heard n r)))
+
+-- ---- how far one was told
+
+pub with_none : (t : ℕ) → t + 0 ≡ t
+with_none t = omega arith
+
+sum_is : (a b : ℕ) (c d : Bool) → a ≡ b → c ≡ d → a + cond c 1 0 ≡ b + cond d 1 0
+sum_is a b c d e f = cc
+
+below_none : (n : ℕ) → nat_lt n 0 ≡ false
+below_none n = grind (arith, nat_tests)
+
+not_below : (m n : ℕ) → nat_le m n ≡ true → nat_lt n m ≡ false
+not_below m n h = grind (arith, nat_tests)
+
+is_below : (m n : ℕ) → nat_le m n ≡ false → nat_lt n m ≡ true
+is_below m n h = grind (arith, nat_tests)
+
+still_below : (m n b : ℕ) → nat_le m n ≡ false → m ≤ b → nat_lt n b ≡ true
+still_below m n b h le = grind (arith, nat_tests)
+
+module _ (n new : News) (space : ℕ) (r : Registration) (rest : new ≡ record n { told = new.told; reached = new.reached }) where
+  untouched : count_of new.told r.space ≡ count_of n.told r.space → count_of new.reached r.space ≡ count_of n.reached r.space → hearing (new ∷ []) r ≡ hearing (n ∷ []) r
+  untouched told reached =
+      stayed n new r rest (sum_is (count_of new.told r.space) (count_of n.told r.space) (nat_lt r.number (count_of new.reached r.space)) (nat_lt r.number (count_of n.reached r.space)) told (ap (λ (m : ℕ). nat_lt r.number m) reached))
+
+-- the rest of its registrations are told the next row
+next_heard : (n new : News) (space : ℕ) → new ≡ record n { told = new.told; reached = new.reached }
+    → ((k : ℕ) → count_of new.told k ≡ (if k == space then count_of n.told k + 1 else count_of n.told k))
+    → ((k : ℕ) → count_of new.reached k ≡ (if k == space then 0 else count_of n.reached k))
+    → (r : Registration) → hearing (new ∷ []) (told_next n space None r) ≡ hearing (n ∷ []) r
+next_heard n new space rest more anew r = at (eqb r.space space) refl (more r.space) (anew r.space) where
+  first : List Row
+  first = take 1 (drop (count_of n.told space) n.rows)
+
+  at : (b : Bool) → (r.space == space) ≡ b → count_of new.told r.space ≡ cond b (count_of n.told r.space + 1) (count_of n.told r.space) → count_of new.reached r.space ≡ cond b 0 (count_of n.reached r.space)
+      → hearing (new ∷ []) (cond b (cond (nat_le (count_of n.reached space) r.number) (owed n.classes n.caller first r) r) r) ≡ hearing (n ∷ []) r
+  at false e c d = untouched n new space r rest c d
+  at true e c d = within (nat_le (count_of n.reached space) r.number) refl where
+    here : r.space ≡ space
+    here = eqb-true r.space space e
+
+    t : ℕ
+    t = count_of n.told space
+
+    now : told_to new r ≡ t + 1
+    now =
+        let told : count_of new.told r.space ≡ t + 1 = c ∙ ap (λ (k : ℕ). count_of n.told k + 1) here in
+        let sum = sum_is (count_of new.told r.space) (t + 1) (nat_lt r.number (count_of new.reached r.space)) false told (ap (λ (m : ℕ). nat_lt r.number m) d ∙ below_none r.number) in
+        omega (arith, sum)
+
+    within : (w : Bool) → nat_le (count_of n.reached space) r.number ≡ w → hearing (new ∷ []) (cond w (owed n.classes n.caller first r) r) ≡ hearing (n ∷ []) r
+    within true f =
+        let sum = sum_is (count_of n.told r.space) t (nat_lt r.number (count_of n.reached r.space)) false (ap (count_of n.told) here) (ap (λ (k : ℕ). nat_lt r.number (count_of n.reached k)) here ∙ not_below (count_of n.reached space) r.number f) in
+        went_on n new t r rest (omega (arith, sum)) now
+    within false f =
+        let sum = sum_is (count_of n.told r.space) t (nat_lt r.number (count_of n.reached r.space)) true (ap (count_of n.told) here) (ap (λ (k : ℕ). nat_lt r.number (count_of n.reached k)) here ∙ is_below (count_of n.reached space) r.number f) in
+        stayed n new r rest (now ∙ sym sum)
+
+-- those below a number are told it
+below_heard : (n new : News) (space below : ℕ) → new ≡ record n { reached = new.reached }
+    → count_of n.reached space ≤ below
+    → ((k : ℕ) → count_of new.reached k ≡ (if k == space then below else count_of n.reached k))
+    → (r : Registration) → hearing (new ∷ []) (told_next n space (Some below) r) ≡ hearing (n ∷ []) r
+below_heard n new space below rest further reached r = at (eqb r.space space) refl (reached r.space) where
+  first : List Row
+  first = take 1 (drop (count_of n.told space) n.rows)
+
+  from : ℕ
+  from = count_of n.reached space
+
+  same : (k : ℕ) → count_of new.told k ≡ count_of n.told k
+  same k = ap (λ (m : News). count_of m.told k) rest
+
+  whole : new ≡ record n { told = new.told; reached = new.reached }
+  whole = rest ∙ ap (λ h. record n { told = h; reached = new.reached }) (sym (ap (λ (m : News). m.told) rest))
+
+  at : (b : Bool) → (r.space == space) ≡ b → count_of new.reached r.space ≡ cond b below (count_of n.reached r.space)
+      → hearing (new ∷ []) (cond b (cond (nat_le from r.number && nat_lt r.number below) (owed n.classes n.caller first r) r) r) ≡ hearing (n ∷ []) r
+  at false e d = untouched n new space r whole (same r.space) d
+  at true e d = within (nat_le from r.number) refl (nat_lt r.number below) refl where
+    here : r.space ≡ space
+    here = eqb-true r.space space e
+
+    t : ℕ
+    t = count_of n.told space
+
+    now : (w : Bool) → nat_lt r.number below ≡ w → told_to new r ≡ t + cond w 1 0
+    now w f = sum_is (count_of new.told r.space) t (nat_lt r.number (count_of new.reached r.space)) w (same r.space ∙ ap (count_of n.told) here) (ap (λ (m : ℕ). nat_lt r.number m) d ∙ f)
+
+    was : (w : Bool) → nat_lt r.number from ≡ w → told_to n r ≡ t + cond w 1 0
+    was w f = sum_is (count_of n.told r.space) t (nat_lt r.number (count_of n.reached r.space)) w (ap (count_of n.told) here) (ap (λ (k : ℕ). nat_lt r.number (count_of n.reached k)) here ∙ f)
+
+    none : t + 0 ≡ t
+    none = omega arith
+
+    within : (u : Bool) → nat_le from r.number ≡ u → (v : Bool) → nat_lt r.number below ≡ v → hearing (new ∷ []) (cond (u && v) (owed n.classes n.caller first r) r) ≡ hearing (n ∷ []) r
+    within true f true g = went_on n new t r whole (was false (not_below from r.number f) ∙ none) (now true g)
+    within true f false g = stayed n new r whole (now false g ∙ sym (was false (not_below from r.number f)))
+    within false f v g = stayed n new r whole (now true (still_below from r.number below f further) ∙ sym (was true (is_below from r.number f)))
+
+same_heard : (n new : News) → new ≡ record n { told = new.told; reached = new.reached } → ((k : ℕ) → count_of new.told k ≡ count_of n.told k) → ((k : ℕ) → count_of new.reached k ≡ count_of n.reached k) → (r : Registration) → hearing (new ∷ []) r ≡ hearing (n ∷ []) r
+same_heard n new rest counts reached r = untouched n new r.space r rest (counts r.space) (reached r.space)
 
 map_twice_same : (f g h : Registration → Registration) → ((r : Registration) → f (g r) ≡ h r) → (rs : List Registration) → map f (map g rs) ≡ map h rs
 map_twice_same f g h same [] = refl
 map_twice_same f g h same (r ∷ rs) = same_lists (same r) (map_twice_same f g h same rs)
 
--- the next row is told, and the rest later
-pub one_told : (space : ℕ) (news : List News) (place : ℕ) (n new : News) (before after : List Registration)
-    → place < length news → all_told (take place news) space ≡ true → n ≡ get_or news place n → new ≡ record n { told = new.told }
-    → ((k : ℕ) → count_of new.told k ≡ (if k == space then count_of n.told k + 1 else count_of n.told k))
-    → after ≡ map (told_next n space) before
+-- some of the next row is told, and the rest later
+further_told : (space : ℕ) (below : Option ℕ) (news : List News) (place : ℕ) (n new : News) (before after : List Registration)
+    → place < length news → all_told (take place news) space ≡ true → n ≡ get_or news place n
+    → ((r : Registration) → hearing (new ∷ []) (told_next n space below r) ≡ hearing (n ∷ []) r)
+    → after ≡ map (told_next n space below) before
     → map (hearing (set news place new)) after ≡ map (hearing news) before
-one_told space news place n new before after some first is rest counts told =
+further_told space below news place n new before after some first is one told =
     ap (map (hearing (set news place new))) told
-    ∙ map_twice_same (hearing (set news place new)) (told_next n space) (hearing news)
-    (told_behind space (told_next n space) new place news n some first (owed_apart n (take 1 (untold n space)) space)
-    (λ r. next_heard n new space rest counts r ∙ ap (λ (m : News). hearing (m ∷ []) r) is))
+    ∙ map_twice_same (hearing (set news place new)) (told_next n space below) (hearing news)
+    (told_behind space (told_next n space below) new place news n some first (owed_apart n (take 1 (drop (count_of n.told space) n.rows)) space (count_of n.reached space) below)
+    (λ r. one r ∙ ap (λ (m : News). hearing (m ∷ []) r) is))
     before
+
+pub one_told : (space : ℕ) (news : List News) (place : ℕ) (n new : News) (before after : List Registration)
+    → place < length news → all_told (take place news) space ≡ true → n ≡ get_or news place n → new ≡ record n { told = new.told; reached = new.reached }
+    → ((k : ℕ) → count_of new.told k ≡ (if k == space then count_of n.told k + 1 else count_of n.told k))
+    → ((k : ℕ) → count_of new.reached k ≡ (if k == space then 0 else count_of n.reached k))
+    → after ≡ map (told_next n space None) before
+    → map (hearing (set news place new)) after ≡ map (hearing news) before
+one_told space news place n new before after some first is rest counts anew told =
+    further_told space None news place n new before after some first is (next_heard n new space rest counts anew) told
+
+pub some_told : (space below : ℕ) (news : List News) (place : ℕ) (n new : News) (before after : List Registration)
+    → place < length news → all_told (take place news) space ≡ true → n ≡ get_or news place n → new ≡ record n { reached = new.reached }
+    → count_of n.reached space ≤ below
+    → ((k : ℕ) → count_of new.reached k ≡ (if k == space then below else count_of n.reached k))
+    → after ≡ map (told_next n space (Some below)) before
+    → map (hearing (set news place new)) after ≡ map (hearing news) before
+some_told space below news place n new before after some first is rest further reached told =
+    further_told space (Some below) news place n new before after some first is (below_heard n new space below rest further reached) told
+
+-- what is read there twice is the same
+pub same_read : (news : List News) (place : ℕ) (m n : News) → place < length news → m ≡ get_or news place m → n ≡ get_or news place n → m ≡ n
+same_read [] place m n some is was = absurd (omega (arith, some))
+same_read (x ∷ xs) zero m n some is was = is ∙ sym was
+same_read (x ∷ xs) (suc i) m n some is was = same_read xs i m n (omega (arith, some)) is was
 
 -- no row is
 pub none_told : (space : ℕ) (news : List News) (place : ℕ) (n new : News) (before after : List Registration)
-    → place < length news → all_told (take place news) space ≡ true → n ≡ get_or news place n → new ≡ record n { told = new.told }
+    → place < length news → all_told (take place news) space ≡ true → n ≡ get_or news place n → new ≡ record n { told = new.told; reached = new.reached }
     → ((k : ℕ) → count_of new.told k ≡ count_of n.told k)
+    → ((k : ℕ) → count_of new.reached k ≡ count_of n.reached k)
     → after ≡ before
     → map (hearing (set news place new)) after ≡ map (hearing news) before
-none_told space news place n new before after some first is rest counts stays =
+none_told space news place n new before after some first is rest counts reached stays =
     ap (map (hearing (set news place new))) stays
     ∙ map_same (hearing (set news place new)) (hearing news)
     (told_behind space (λ r. r) new place news n some first (λ m h r. refl)
-    (λ r. same_heard n new rest counts r ∙ ap (λ (m : News). hearing (m ∷ []) r) is))
+    (λ r. same_heard n new rest counts reached r ∙ ap (λ (m : News). hearing (m ∷ []) r) is))
     before
 
 -- what was told stays told
@@ -169,7 +299,7 @@ set_told k (n ∷ ns) (suc i) new d one told =
     let parts = and_parts (is_told k n) (all_told ns k) told in
     and_from (is_told k n) (all_told (set ns i new) k) parts.0 (set_told k ns i new d one parts.1)
 
-pub still_told : (k : ℕ) (news : List News) (place : ℕ) (n new : News) → n ≡ get_or news place n → new ≡ record n { told = new.told } → count_of n.told k ≤ count_of new.told k
+pub still_told : (k : ℕ) (news : List News) (place : ℕ) (n new : News) → n ≡ get_or news place n → new ≡ record n { told = new.told; reached = new.reached } → count_of n.told k ≤ count_of new.told k
     → all_told news k ≡ true → all_told (set news place new) k ≡ true
 still_told k news place n new is rest more told =
     set_told k news place new n
@@ -179,7 +309,7 @@ still_told k news place n new is rest more told =
     le-leb (length new.rows) (count_of new.told k) enough)
     told
 
-pub fewer_left : (space : ℕ) (news : List News) (place : ℕ) (n new : News) → place < length news → n ≡ get_or news place n → new ≡ record n { told = new.told }
+pub fewer_left : (space : ℕ) (news : List News) (place : ℕ) (n new : News) → place < length news → n ≡ get_or news place n → new ≡ record n { told = new.told; reached = new.reached }
     → count_of n.told space < length n.rows → count_of new.told space ≡ count_of n.told space + 1
     → still_to_tell (set news place new) space < still_to_tell news space
 fewer_left space news place n new some is rest left more =
@@ -206,12 +336,12 @@ nobody_hears n r (w ∷ ws) told left =
     let none : is_news n.classes n.caller r w ≡ false = ap (λ b. is_free r.transaction n.caller && (b && matches n.classes r.template w.entry)) apart ∙ and-false (is_free r.transaction n.caller) in
     ap (λ (b : Bool). cond b (w ∷ filter (is_news n.classes n.caller r) ws) (filter (is_news n.classes n.caller r) ws)) none ∙ nobody_hears n r ws parts.1 left
 
-nothing_owed : (n : News) (r : Registration) → list_all (λ row. is_told row.space n) n.rows ≡ true → numbers_of_news n.classes n.caller (untold n r.space) r ≡ []
+nothing_owed : (n : News) (r : Registration) → list_all (λ row. is_told row.space n) n.rows ≡ true → numbers_of_news n.classes n.caller (untold n r) r ≡ []
 nothing_owed n r told = at (is_told r.space n) refl where
-  at : (b : Bool) → is_told r.space n ≡ b → numbers_of_news n.classes n.caller (untold n r.space) r ≡ []
-  at true e = ap (λ (ws : List Row). numbers_of_news n.classes n.caller ws r) (nothing_untold n r.space e)
+  at : (b : Bool) → is_told r.space n ≡ b → numbers_of_news n.classes n.caller (untold n r) r ≡ []
+  at true e = ap (λ (ws : List Row). numbers_of_news n.classes n.caller ws r) (nothing_untold n r e)
   at false e =
-      ap (map (λ (w : Row). w.number)) (nobody_hears n r (untold n r.space) (all_dropped (λ (row : Row). is_told row.space n) n.rows (count_of n.told r.space) told) e)
+      ap (map (λ (w : Row). w.number)) (nobody_hears n r (untold n r) (all_dropped (λ (row : Row). is_told row.space n) n.rows (told_to n r) told) e)
 
 pub told_everywhere : (n : News) (ns : List News) → list_all (λ row. is_told row.space n) n.rows ≡ true → (rs : List Registration) → map (hearing ns) rs ≡ map (hearing (n ∷ ns)) rs
 told_everywhere n ns told rs =

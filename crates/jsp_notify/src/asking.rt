@@ -6,10 +6,10 @@ ghost use Rattle.jsp_types.specs.declared.entry.Entry.{Entry as OfEntry};
 ghost use Rattle.jsp_model.specs.Lookup.{is_caller as calls};
 ghost use Rattle.jsp_keys.specs.Keys.{session_key, transaction_key, space_key};
 ghost use Rattle.jsp_notify.specs.News.{hearing, is_behind, untold};
-ghost use Rattle.jsp_notify.specs.Owing.{is_news as has_news};
+ghost use Rattle.jsp_notify.specs.Owing.{is_news as has_news, is_within as within};
 
 use crate::news::News;
-use crate::owing::is_news;
+use crate::owing::{Range, is_news};
 use crate::untold::is_all_told;
 use jsp_keyed::Keys;
 use jsp_keys::{ByEntry, key_of_session, key_of_space, key_of_transaction};
@@ -145,7 +145,7 @@ pub(crate) fn is_owed_after(news: &[News], registration: &Registration) -> bool
 }
 
 fn is_any_for(news: &[News], registration: &Registration) -> bool
-    ensures { result ≡ list_any (λ n. list_any (has_news n.classes n.caller registration.now) (untold n registration.now.space)) news.now }
+    ensures { result ≡ list_any (λ n. list_any (has_news n.classes n.caller registration.now) (untold n registration.now)) news.now }
 {
     news.iter().any(|one| one.is_for(registration))
 }
@@ -177,6 +177,41 @@ impl<'a> Test<Registration> for Hears<'a> {
 
     fn passes(&self, registration: &Registration) -> bool {
         is_news(self.classes, self.caller, registration, self.row)
+    }
+}
+
+/// Whether a row is news to it, and its number is of the range.
+#[derive(Drop)]
+pub(crate) struct HearsWithin<'a> {
+    pub(crate) news: Hears<'a>,
+    pub(crate) range: Range,
+}
+
+impl<'a> Test<Registration> for HearsWithin<'a> {
+    ghost is_passed = { λ t r. within t.range.from t.range.below r && has_news t.news.classes.now t.news.caller r t.news.row.now };
+
+    fn passes(&self, registration: &Registration) -> bool {
+        self.range.has(registration) && self.news.passes(registration)
+    }
+}
+
+impl<'a> ByEntry for HearsWithin<'a> {
+    ghost classes_of = { λ t. t.news.classes.now };
+
+    ghost space_of = { λ t. t.news.row.now.space };
+
+    ghost entry_of = { λ t. t.news.row.now.entry };
+
+    fn classes(&self) -> &Classes {
+        self.news.classes
+    }
+
+    fn space(&self) -> u64 {
+        self.news.row.space
+    }
+
+    fn entry(&self) -> &Entry {
+        &self.news.row.entry
     }
 }
 

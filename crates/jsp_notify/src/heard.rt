@@ -1,19 +1,19 @@
 //! Registrations with all that they are owed. Contracts see them as a list, in the order in which
 //! they were made.
-ghost use Rattle.std.specs.Prelude.{◌≡◌, ◌==◌, ◌&&◌, ◌||◌, ◌++◌, ◌∷◌, ◌^◌, ◌+◌, ℕ, [], true, not, nat_le, map, filter, find, length, option_copied, option_map, IfOk, OnOk, OnErr, MatchOption, IsTrue};
+ghost use Rattle.std.specs.Prelude.{◌≡◌, ◌==◌, ◌&&◌, ◌||◌, ◌++◌, ◌∷◌, ◌^◌, ◌+◌, ℕ, [], true, not, nat_le, map, filter, find, length, option_copied, option_map, ◌≤◌, IfOk, IfSome, OnOk, OnErr, MatchOption, IsTrue};
 ghost use Rattle.jsp_model.specs.declared.state.Registration.{Registration as OfRegistration};
 ghost use Rattle.jsp_keyed.specs.Finding.{is_sought};
 ghost use Rattle.jsp_notify.specs.Sought.{registration_keys};
 ghost use Rattle.std.specs.List.{list_any, list_all};
 ghost use Rattle.jsp_lease.specs.Due.{first_item, over_by};
 ghost use Rattle.jsp_model.specs.Lookup.{update, is_caller as calls};
-ghost use Rattle.jsp_notify.specs.Owing.{owed as with_owed, forgiven};
+ghost use Rattle.jsp_notify.specs.Owing.{owed as with_owed, owed_within, forgiven};
 ghost use Rattle.jsp_notify.specs.Registered.{registration_end, registration_ending, told_once};
 
 use crate::asking::{At, OfSession, Under};
 use crate::finding::spaces_of;
 use crate::hinted::HintedRegistrations;
-use crate::owing::{forgive_each, owe_each};
+use crate::owing::{Range, forgive_each, owe_each, owe_each_within};
 use crate::scanned::{
     any_numbered, copies_of, count_at, drop_at, drop_numbered, drop_of, drop_under, extend_each,
     find_numbered, first_over, first_passing, first_that_is_owed, spaces_among, tell_each,
@@ -203,6 +203,46 @@ impl Heard {
         match &mut self.kept {
             Kept::Scanned(registrations) => owe_each(classes, registrations, rows, caller),
             Kept::Hinted(registrations) => registrations.owe_all(classes, rows, caller),
+        }
+    }
+
+    /// Each registration of the range is owed the row, written by the caller, where that is news to
+    /// it: whole or not at all.
+    pub(crate) fn owe_within(
+        &mut self,
+        classes: &Classes,
+        row: &Row,
+        caller: Option<u64>,
+        range: Range,
+    ) -> Result<(), NoMemory>
+        ensures ok { OnOk result (self.new ≡ map (owed_within classes.now caller row.now range.from range.below) self.old) }
+        ensures err { OnErr result (self.new ≡ self.old) }
+    {
+        match &mut self.kept {
+            Kept::Scanned(registrations) => {
+                owe_each_within(classes, registrations, row, caller, range)
+            }
+            Kept::Hinted(registrations) => registrations.owe_within(classes, row, caller, range),
+        }
+    }
+
+    /// A number from the first on, below which so many registrations or fewer hear the row; nothing
+    /// where no more are left, or where each is looked at.
+    pub(crate) fn bound_of(
+        &self,
+        classes: &Classes,
+        row: &Row,
+        caller: Option<u64>,
+        from: u64,
+        most: usize,
+    ) -> Result<Option<u64>, NoMemory>
+        ensures { IfOk result (λ below. IfSome below (λ b. from ≤ b)) }
+    {
+        match &self.kept {
+            Kept::Scanned(_) => Ok(None),
+            Kept::Hinted(registrations) => {
+                registrations.bound_of(classes, row, caller, from, most)
+            }
         }
     }
 

@@ -1,22 +1,23 @@
 //! Registrations, found by hints. Contracts see them as a list, in rising order of their numbers.
-ghost use Rattle.std.specs.Prelude.{◌≡◌, ◌==◌, ◌&&◌, ◌++◌, ◌∷◌, ℕ, [], true, not, map, filter, find, length, option_copied, option_map, nat_le, IfOk, OnOk, OnErr, MatchOption, IsTrue, ◌+◌, ◌^◌};
+ghost use Rattle.std.specs.Prelude.{◌≡◌, ◌==◌, ◌&&◌, ◌++◌, ◌∷◌, ℕ, [], true, not, map, filter, find, length, option_copied, option_map, nat_le, ◌≤◌, IfOk, IfSome, OnOk, OnErr, MatchOption, IsTrue, ◌+◌, ◌^◌};
 ghost use Rattle.std.specs.List.{list_any, list_all};
 ghost use Rattle.jsp_lease.specs.Due.{first_item, over_by};
 ghost use Rattle.jsp_model.specs.declared.state.Registration.{Registration as OfRegistration};
 ghost use Rattle.jsp_model.specs.Lookup.{update};
 ghost use Rattle.jsp_table.specs.Finding.{AreNumbered};
 ghost use Rattle.jsp_keyed.specs.Finding.{is_sought};
-ghost use Rattle.jsp_notify.specs.Owing.{owed as with_owed, forgiven};
+ghost use Rattle.jsp_notify.specs.Owing.{owed as with_owed, owed_within, forgiven};
 ghost use Rattle.jsp_notify.specs.Registered.{registration_end, registration_ending, told_once};
 ghost use Rattle.jsp_notify.specs.Sought.{registration_keys};
 
-use crate::asking::{Hears, OwedAt};
+use crate::asking::{Hears, HearsWithin, OwedAt};
 use crate::by_number::Found;
 use crate::changing::{Extension, Forgiving, Owing, Telling};
 use crate::naming::{forget_gone, forget_told, name_listeners, name_owed};
+use crate::owing::Range;
 use jsp_keyed::{Keyed, Keys};
 use jsp_model::{Item, Registration, Row};
-use jsp_table::{Hints, Test};
+use jsp_table::{Hints, Numbers, Test};
 use jsp_types::{Classes, NoMemory};
 use std::alloc::Global;
 use std::marker::Model;
@@ -138,6 +139,57 @@ impl HintedRegistrations {
         Ok(())
     }
 
+    /// Each registration of the range is owed the row, written by the caller, where that is news to
+    /// it: whole or not at all.
+    pub(crate) fn owe_within(
+        &mut self,
+        classes: &Classes,
+        row: &Row,
+        caller: Option<u64>,
+        range: Range,
+    ) -> Result<(), NoMemory>
+        ensures ok { OnOk result (self.new ≡ map (owed_within classes.now caller row.now range.from range.below) self.old) }
+        ensures err { OnErr result (self.new ≡ self.old) }
+    {
+        let news = Hears {
+            classes,
+            row,
+            caller,
+        };
+        let within = HearsWithin { news, range };
+        let number = row.number;
+        let listeners = self.registrations.passing(&within)?;
+        name_listeners(&mut self.owed, row.space, &listeners)?;
+        self.registrations
+            .try_change_named(&listeners, &within, &Owing { number }, &Forgiving {})?;
+        Ok(())
+    }
+
+    /// A number from the first on, below which so many registrations or fewer hear the row; nothing
+    /// where no more are left.
+    pub(crate) fn bound_of(
+        &self,
+        classes: &Classes,
+        row: &Row,
+        caller: Option<u64>,
+        from: u64,
+        most: usize,
+    ) -> Result<Option<u64>, NoMemory>
+        ensures { IfOk result (λ below. IfSome below (λ b. from ≤ b)) }
+    {
+        if !self.registrations.has_at_least(most.saturating_add(1)) {
+            return Ok(None);
+        }
+        let news = Hears {
+            classes,
+            row,
+            caller,
+        };
+        let range = Range { from, below: None };
+        let listeners = self.registrations.passing(&HearsWithin { news, range })?;
+        Ok(number_behind(&listeners, from, most))
+    }
+
     /// Takes back that each was owed the row. Takes no memory.
     fn forgive(&mut self, classes: &Classes, row: &Row, caller: Option<u64>)
         ensures { self.new ≡ map (forgiven classes.now caller (row.now ∷ [])) self.old }
@@ -208,6 +260,23 @@ impl HintedRegistrations {
         ensures rising { AreNumbered (λ (r : OfRegistration). r.number) self.now }
     {
         self.registrations.first_number(test)
+    }
+}
+
+/// Of the numbers from the first on, the one behind so many of them.
+fn number_behind(numbers: &Numbers, from: u64, count: usize) -> Option<u64>
+    ensures { IfSome result (λ b. from ≤ b) }
+{
+    let mut last = from.saturating_sub(1);
+    for _ in 0..count {
+        let Some(number) = numbers.next_above(last) else {
+            return None;
+        };
+        last = number;
+    }
+    match numbers.next_above(last) {
+        Some(number) if from <= number => Some(number),
+        _ => None,
     }
 }
 

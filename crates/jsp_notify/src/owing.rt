@@ -1,11 +1,12 @@
 //! What registrations are owed of written rows, whole or not at all.
 ghost use Rattle.std.specs.Prelude.{◌≡◌, ◌≤◌, ◌-◌, ◌++◌, OnOk, OnErr, map, filter, length, take, drop};
 ghost use Rattle.jsp_model.specs.Sight.{is_free as frees};
-ghost use Rattle.jsp_notify.specs.Owing.{is_news as has_news, owed as with_owed, forgiven};
+ghost use Rattle.jsp_notify.specs.Owing.{is_news as has_news, owed as with_owed, owed_within, forgiven, forgiven_within, is_within};
 
 use jsp_model::{Registration, Row};
 use jsp_sight::is_caller;
 use jsp_types::{Classes, NoMemory, matches};
+use std::slice::from_ref;
 
 /// Each registration is owed those of the rows, written by the caller, that are news to it.
 pub(crate) fn owe_each(
@@ -51,6 +52,94 @@ fn forgive_first(
 {
     'places: for place in 0..count {
         forgive(classes, &mut registrations[place], rows, caller);
+    }
+}
+
+/// Numbers of registrations.
+#[derive(Clone, Copy)]
+pub(crate) struct Range {
+    /// The first,
+    pub(crate) from: u64,
+    /// and the one behind the last, if there is one.
+    pub(crate) below: Option<u64>,
+}
+
+impl Range {
+    /// Whether the registration's number is one of them.
+    pub(crate) fn has(self, registration: &Registration) -> bool
+        ensures { result ≡ is_within self.from self.below registration.now }
+    {
+        match self.below {
+            None => self.from <= registration.number,
+            Some(below) => self.from <= registration.number && registration.number < below,
+        }
+    }
+}
+
+/// Each registration of the range is owed the row, written by the caller, where that is news to it.
+pub(crate) fn owe_each_within(
+    classes: &Classes,
+    registrations: &mut [Registration],
+    row: &Row,
+    caller: Option<u64>,
+    range: Range,
+) -> Result<(), NoMemory>
+    ensures ok { OnOk result (registrations.new ≡ map (owed_within classes.now caller row.now range.from range.below) registrations.old) }
+    ensures err { OnErr result (registrations.new ≡ registrations.old) }
+{
+    'places: for place in 0..registrations.len() {
+        if let Err(e) = owe_within(classes, &mut registrations[place], row, caller, range) {
+            forgive_first_within(classes, registrations, place, row, caller, range);
+            return Err(e);
+        }
+    }
+    Ok(())
+}
+
+fn forgive_first_within(
+    classes: &Classes,
+    registrations: &mut [Registration],
+    count: usize,
+    row: &Row,
+    caller: Option<u64>,
+    range: Range,
+)
+    requires { count ≤ length registrations.old }
+    ensures { registrations.new ≡ map (forgiven_within classes.now caller row.now range.from range.below) (take count registrations.old) ++ drop count registrations.old }
+{
+    'places: for place in 0..count {
+        forgive_within(classes, &mut registrations[place], row, caller, range);
+    }
+}
+
+fn owe_within(
+    classes: &Classes,
+    registration: &mut Registration,
+    row: &Row,
+    caller: Option<u64>,
+    range: Range,
+) -> Result<(), NoMemory>
+    ensures ok { OnOk result (registration.new ≡ owed_within classes.now caller row.now range.from range.below registration.old) }
+    ensures err { OnErr result (registration.new ≡ registration.old) }
+{
+    if range.has(registration) {
+        owe(classes, registration, from_ref(row), caller)
+    } else {
+        Ok(())
+    }
+}
+
+fn forgive_within(
+    classes: &Classes,
+    registration: &mut Registration,
+    row: &Row,
+    caller: Option<u64>,
+    range: Range,
+)
+    ensures { registration.new ≡ forgiven_within classes.now caller row.now range.from range.below registration.old }
+{
+    if range.has(registration) {
+        forgive(classes, registration, from_ref(row), caller);
     }
 }
 

@@ -116,7 +116,8 @@ impl Registrations {
     }
 
     fn record_news(&mut self, news: News) -> Result<(), NoMemory>
-        requires { (space : ℕ) → count_of news.told space ≡ 0 }
+        requires untold { (space : ℕ) → count_of news.told space ≡ 0 }
+        requires unreached { (space : ℕ) → count_of news.reached space ≡ 0 }
         ensures ok { OnOk result (self.new ≡ map (with_owed news.classes news.caller news.rows) self.old) }
         ensures err { OnErr result (self.new ≡ self.old) }
     {

@@ -17,6 +17,12 @@ const FEW: usize = 16;
 /// Up to how many hear some.
 const SOME: usize = 64;
 
+/// How many registrations, where they are more, are told a row at once.
+const MOST_LISTENERS: usize = 512;
+
+/// How many rows that hardly any of these wants are gone through at once.
+const MOST_PARTS: usize = 256;
+
 /// Tells the registrations of a space some of what they haven't heard, so that one of them is owed
 /// an event if any has one to come; nothing where one is. Where memory is refused the rest isn't
 /// told.
@@ -26,6 +32,59 @@ pub(crate) fn tell_some(heard: &mut Heard, news: &mut Items<News>, space: u64)
     if heard.first_owed(space).is_some() {
         return;
     }
+    if heard.has_at_least(SOME + 1) {
+        tell_a_few(heard, news, space);
+    } else {
+        tell_rows(heard, news, space);
+    }
+    drop_told(heard, news);
+}
+
+/// Tells some of very many registrations the next row, until one is owed an event.
+fn tell_a_few(heard: &mut Heard, news: &mut Items<News>, space: u64)
+    ensures { map (hearing news.new) heard.new ≡ map (hearing news.old) heard.old }
+{
+    'parts: for _ in 0..MOST_PARTS {
+        if heard.first_owed(space).is_some() || !has_told_a_few(heard, news, space) {
+            break 'parts;
+        }
+    }
+}
+
+/// Tells so many registrations the next row, if there is one, and memory for it.
+fn has_told_a_few(heard: &mut Heard, news: &mut Items<News>, space: u64) -> bool
+    ensures { map (hearing news.new) heard.new ≡ map (hearing news.old) heard.old }
+{
+    match tell_part(heard, news, space) {
+        Ok(is_told) => is_told,
+        Err(_) => false,
+    }
+}
+
+/// Tells so many registrations of a space the next row that they haven't heard, if there is one.
+fn tell_part(heard: &mut Heard, news: &mut Items<News>, space: u64) -> Result<bool, NoMemory>
+    ensures { map (hearing news.new) heard.new ≡ map (hearing news.old) heard.old }
+{
+    let place = first_untold(news.as_slice(), space);
+    if place >= news.as_slice().len() {
+        return Ok(false);
+    }
+    match news.as_slice()[place].bound_of(heard, space, MOST_LISTENERS)? {
+        None => news.items[place].tell_next(heard, space)?,
+        Some(below) => news.items[place].tell_below(heard, space, below)?,
+    }
+    Ok(true)
+}
+
+/// How many rows are told at once, so that this takes about as long for some as for few.
+fn rows_at_once(heard: &Heard) -> usize {
+    if heard.has_at_least(FEW + 1) { 16 } else { 64 }
+}
+
+/// Tells several rows, each to all registrations of the space, which are few.
+fn tell_rows(heard: &mut Heard, news: &mut Items<News>, space: u64)
+    ensures { map (hearing news.new) heard.new ≡ map (hearing news.old) heard.old }
+{
     let most = rows_at_once(heard);
     let mut count = 0;
     'rows: while count < most || heard.first_owed(space).is_none() {
@@ -33,18 +92,6 @@ pub(crate) fn tell_some(heard: &mut Heard, news: &mut Items<News>, space: u64)
             break 'rows;
         }
         count = count.saturating_add(1);
-    }
-    drop_told(heard, news);
-}
-
-/// How many rows are told at once, so that this takes about as long for few as for many.
-fn rows_at_once(heard: &Heard) -> usize {
-    if heard.has_at_least(SOME + 1) {
-        1
-    } else if heard.has_at_least(FEW + 1) {
-        16
-    } else {
-        64
     }
 }
 

@@ -105,6 +105,30 @@ fn many_hear_a_row_at_a_time(rt: HostRuntime) -> Result<(), Fail> {
 }
 
 #[test]
+fn very_many_hear_a_row_in_parts(rt: HostRuntime) -> Result<(), Fail> {
+    let alloc = rt.alloc();
+    let mut registrations = Registrations::new(alloc, 0);
+    for number in 1..=600 {
+        registrations.push(listener(alloc, number, 0)?)?;
+    }
+    let mut published = Items::new(alloc);
+    published.push(row(alloc, 601, 0)?)?;
+    registrations.record(&Classes::new(alloc), published)?;
+    for number in 1..600 {
+        registrations.hear_in(0);
+        assert!(rt; number > 500 || registrations.has_news());
+        assert_eq!(rt; registrations.next_owed(0), Some(number));
+        registrations.remove(number);
+    }
+    registrations.push(listener(alloc, 602, 0)?)?;
+    registrations.hear_in(0);
+    assert!(rt; !registrations.has_news());
+    assert!(rt; registrations.is_owed(600));
+    assert!(rt; !registrations.is_owed(602));
+    Ok(())
+}
+
+#[test]
 fn what_publishes_nothing_is_no_news(rt: HostRuntime) -> Result<(), Fail> {
     let alloc = rt.alloc();
     let mut registrations = Registrations::new(alloc, 0);

@@ -11,5 +11,5 @@ use Rattle.jsp_notify.proofs.asking.is_owed_after.Goals as goal
 pub returns-else-not-is_empty : goal.returns-else-not-is_empty
 returns-else-not-is_empty c =
     let none : (length c.args.registration.now.owed == 0) ≡ true = first_of (search rules, grind (arith, common_steps)) in
-    let told = list_any (λ (n : News). list_any (is_news n.classes n.caller c.args.registration.now) (untold n c.args.registration.now.space)) c.args.news.now in
+    let told = list_any (λ (n : News). list_any (is_news n.classes n.caller c.args.registration.now) (untold n c.args.registration.now)) c.args.news.now in
     c.is_any_for.ensures ∙ (ap (λ b. not b || told) (sym none) ∙ owed_after c.args.news.now c.args.registration.now)

@@ -11,7 +11,7 @@ returns-in_err-tell_next-clause-same c =
     let some : place < length items = omega (arith, c.if-place-as_slice.false, ap (λ (ns : List News). length ns) c.as_slice-2.ensures, ap (λ (ns : List News). length ns) c.news.view_is) in
     let first = subst (λ (ns : List News). all_told (take place ns) c.args.space ≡ true) (c.as_slice.ensures ∙ sym c.news.view_is) c.first_untold-place.ensures.before in
     none_told c.args.space items place c.index_mut.result.now c.tell_next.new.self c.args.heard.now c.tell_next.new.heard some first c.index_mut.ensures.value c.tell_next.ensures.rest
-    c.in_err-tell_next.ensures.no_more c.in_err-tell_next.ensures.stays
+    c.in_err-tell_next.ensures.no_more c.in_err-tell_next.ensures.no_further c.in_err-tell_next.ensures.stays
     ∙ ap (λ ns. map (hearing ns) c.args.heard.now) c.news.view_is
 
 pub returns-in_err-tell_next-clause-keeps : goal.returns-in_err-tell_next-clause-keeps
@@ -28,7 +28,7 @@ returns-clause-same c =
     let some : place < length items = omega (arith, c.if-place-as_slice.false, ap (λ (ns : List News). length ns) c.as_slice-2.ensures, ap (λ (ns : List News). length ns) c.news.view_is) in
     let first = subst (λ (ns : List News). all_told (take place ns) c.args.space ≡ true) (c.as_slice.ensures ∙ sym c.news.view_is) c.first_untold-place.ensures.before in
     one_told c.args.space items place c.index_mut.result.now c.tell_next.new.self c.args.heard.now c.tell_next.new.heard some first c.index_mut.ensures.value c.tell_next.ensures.rest
-    c.in_ok-tell_next.ensures.one_more c.in_ok-tell_next.ensures.told
+    c.in_ok-tell_next.ensures.one_more c.in_ok-tell_next.ensures.anew c.in_ok-tell_next.ensures.told
     ∙ ap (λ ns. map (hearing ns) c.args.heard.now) c.news.view_is
 
 pub returns-clause-keeps : goal.returns-clause-keeps

@@ -14,7 +14,7 @@ returns-clause-ok c =
     let news = c.in_ok-news.news in
     let made = c.in_ok-news.ensures in
     ap (λ ns. map (hearing ns) self.heard) c.in_ok-push.ensures.ok
-    ∙ (recorded self.news news made.untold self.heard
+    ∙ (recorded self.news news made.untold made.unreached self.heard
     ∙ (ap (λ (classes : List Class). map (owed classes news.caller news.rows) (all_of self)) made.classes
     ∙ (ap (λ (caller : Option ℕ). map (owed c.args.classes.now caller news.rows) (all_of self)) made.caller
     ∙ ap (λ (rows : List Row). map (owed c.args.classes.now c.args.caller rows) (all_of self)) (made.rows ∙ c.in_ok-copies.ensures))))

@@ -9,4 +9,4 @@ returns-clause-ok c =
     let self = c.self.inside.listeners in
     let news = c.args.news in
     ap (λ ns. map (hearing ns) self.heard) c.in_ok-push.ensures.ok
-    ∙ (recorded self.news news c.requires self.heard ∙ ap (map (owed news.classes news.caller news.rows)) c.self.view_is)
+    ∙ (recorded self.news news c.requires.untold c.requires.unreached self.heard ∙ ap (map (owed news.classes news.caller news.rows)) c.self.view_is)
