@@ -1,7 +1,7 @@
 -- What counts as refused.
 use Rattle.std.specs.Prelude.{ℕ, Bool, true, false, ◌||◌, Option, Some, None, is_some, option_and_then, codes}
 use Rattle.serde_json.specs.Data.{Data, Items, no_items, item}
-use Rattle.serde_json.specs.Find.{get, as_array}
+use Rattle.serde_json.specs.Find.{get, as_array, as_null}
 
 -- it has the key `fault`
 abbrev pub has_fault : Data → Bool
@@ -20,6 +20,10 @@ list_has_fault (Some ds) = any_has_fault ds
 -- a batch of leases may.
 abbrev pub counts_as_refused : Data → Bool
 counts_as_refused answer = has_fault answer || list_has_fault (option_and_then as_array (get (codes "ok") answer))
+
+-- An answer to a search, a read or a take, that found no entry: null. It counts too where an entry must be found.
+abbrev pub found_nothing : Data → Bool
+found_nothing answer = is_some (option_and_then as_null (get (codes "ok") answer))
 
 -- what the shell is told: 0 only where nothing was refused
 abbrev pub status_of : Bool → ℕ

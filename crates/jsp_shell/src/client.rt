@@ -2,10 +2,11 @@
 ghost use Rattle.std.specs.Prelude.{◌≤◌, IfOk};
 
 use crate::fault::ShellFault;
+use crate::options::Options;
 use crate::refused::Refused;
-use crate::request::MOST_BYTES;
-use crate::session::Session;
+use crate::session::{Exit, Session, Taken};
 use crate::typing::Typing;
+use jsp_forms::MOST_BYTES;
 use jsp_frame::{Cut, Unframer};
 use std::alloc::AllocError;
 use std::io::{ErrorKind, Read, Stderr, Stdout};
@@ -26,10 +27,11 @@ impl Client {
     pub fn connect<R: AllocGlobal + Net<Stream = TcpStream>>(
         rt: &R,
         address: &str,
+        options: Options,
         out: Stdout,
         faults: Stderr,
     ) -> Result<Client, ShellFault> {
-        let session = Session::open(rt, address, out, faults)?;
+        let session = Session::open(rt, address, options, out, faults)?;
         match Arc::new(rt.alloc(), session) {
             Ok(session) => Ok(Client { session }),
             Err(_) => Err(ShellFault::NoMemory),
@@ -43,12 +45,15 @@ impl Client {
         })
     }
 
-    /// Asks one thing, and nothing after it.
+    /// Asks one thing, and nothing after it. What is watched goes on being told.
     pub fn ask<R: Wait>(&self, rt: &R, line: &str) -> Result<(), ShellFault> {
-        if let Some(asked) = self.session.take_line(rt, 1, line.as_bytes())? {
-            self.session.send(asked.frame.as_slice());
+        match self.session.take_line(rt, 1, line.as_bytes())? {
+            Taken::Asked(frame) | Taken::Left(Exit::Bye(frame)) => {
+                self.session.send(frame.as_slice());
+            }
+            Taken::Done | Taken::Left(Exit::Quit) => {}
         }
-        Ok(self.session.end_input(rt)?)
+        self.session.end_request(rt)
     }
 
     /// Prints what the server says until the session is left, and answers whether anything was refused.

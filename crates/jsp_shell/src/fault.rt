@@ -1,74 +1,38 @@
-//! Why a line isn't sent, and why a session ends before its work is done.
-use crate::request::MOST_BYTES;
+//! Why nothing is sent for a line, and why a session ends before its work is done.
+use jsp_forms::LineFault;
 use std::alloc::{AllocError, AllocFailed};
 use std::io;
 use thiserror::Error;
 
 /// Why nothing is sent for a line, in the words that follow its number on standard error.
 #[derive(Debug, Drop, Error)]
-pub(crate) enum LineFault {
-    #[error("longer than {MOST_BYTES} bytes")]
-    TooLong,
-    #[error("not text in UTF-8")]
-    NotUtf8,
-    #[error("a quote isn't closed")]
-    OpenQuote,
-    #[error("not JSON: {0}")]
-    NotJson(serde_json::Error),
-    #[error("`op` is missing")]
-    NoOperation,
-    #[error("`id` is there, which the client gives")]
-    HasId,
-    #[error("no operation `{0}`; try `help`")]
-    UnknownOperation(String),
-    #[error("`{op}` lacks `{member}`; try `help {op}`")]
-    Missing {
-        op: &'static str,
-        member: &'static str,
-    },
-    #[error("`{op}` has no place for `{word}`; try `help {op}`")]
-    TooMuch {
-        op: &'static str,
-        word: String,
-    },
-    #[error("`{0}` is there twice")]
-    Twice(String),
-    #[error("`{0}` is no number of 64 bits")]
-    NotNumber(String),
-    #[error("`{0}` is no text")]
-    NotText(String),
-    #[error("`{word}` isn't {wanted}")]
-    NotPart {
-        wanted: &'static str,
-        word: String,
-    },
+pub(crate) enum NotSent {
+    #[error(transparent)]
+    NotUnderstood(LineFault),
     #[error("cannot be read: {0}")]
     NotRead(io::Error),
-    #[error("not sent, since the session was left by `bye`")]
-    Left,
+    /// It stands behind this line, which leaves the session.
+    #[error("not sent, since the session was left by `{0}`")]
+    Left(&'static str),
     #[error("out of memory")]
     NoMemory,
 }
 
-impl From<AllocError> for LineFault {
-    fn from(_error: AllocError) -> LineFault {
-        LineFault::NoMemory
+impl From<LineFault> for NotSent {
+    fn from(fault: LineFault) -> NotSent {
+        NotSent::NotUnderstood(fault)
     }
 }
 
-impl<T: Drop> From<AllocFailed<T>> for LineFault {
-    fn from(_error: AllocFailed<T>) -> LineFault {
-        LineFault::NoMemory
+impl From<AllocError> for NotSent {
+    fn from(_error: AllocError) -> NotSent {
+        NotSent::NoMemory
     }
 }
 
-impl From<serde_json::Error> for LineFault {
-    fn from(error: serde_json::Error) -> LineFault {
-        if error.is_memory() {
-            LineFault::NoMemory
-        } else {
-            LineFault::NotJson(error)
-        }
+impl<T: Drop> From<AllocFailed<T>> for NotSent {
+    fn from(_error: AllocFailed<T>) -> NotSent {
+        NotSent::NoMemory
     }
 }
 
@@ -93,6 +57,12 @@ pub enum ShellFault {
 
 impl From<AllocError> for ShellFault {
     fn from(_error: AllocError) -> ShellFault {
+        ShellFault::NoMemory
+    }
+}
+
+impl<T: Drop> From<AllocFailed<T>> for ShellFault {
+    fn from(_error: AllocFailed<T>) -> ShellFault {
         ShellFault::NoMemory
     }
 }

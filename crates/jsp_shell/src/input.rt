@@ -1,6 +1,6 @@
 //! The lines of the input, each within a bound.
-use crate::fault::LineFault;
-use crate::request::MOST_BYTES;
+use crate::fault::NotSent;
+use jsp_forms::{LineFault, MOST_BYTES};
 use std::alloc::Global;
 use std::io::{self, BufRead, BufReader, ErrorKind, Read};
 
@@ -27,7 +27,7 @@ impl<R: Read + Drop> Lines<R> {
     }
 
     /// The next line, or none at the end. One that is too long is passed over. After another fault no more can be read.
-    pub(crate) fn next(&mut self) -> Result<Option<Vec<u8>>, LineFault> {
+    pub(crate) fn next(&mut self) -> Result<Option<Vec<u8>>, NotSent> {
         self.number = self.number.saturating_add(1);
         let mut line = Vec::new(self.alloc);
         for _ in 0..u64::MAX {
@@ -42,7 +42,7 @@ impl<R: Read + Drop> Lines<R> {
             line.pop();
         }
         if line.len() > MOST_BYTES {
-            return Err(LineFault::TooLong);
+            return Err(NotSent::NotUnderstood(LineFault::TooLong));
         }
         Ok(Some(line))
     }
@@ -69,11 +69,11 @@ impl<R: Read + Drop> Lines<R> {
     }
 
     /// Reads more of a line, and answers whether it has ended. Of one that is too long no more is kept.
-    fn read_some(&mut self, line: &mut Vec<u8>) -> Result<bool, LineFault> {
+    fn read_some(&mut self, line: &mut Vec<u8>) -> Result<bool, NotSent> {
         let bytes = match self.reader.fill_buf() {
             Ok(bytes) => bytes,
             Err(error) if error.kind() == ErrorKind::Interrupted => return Ok(false),
-            Err(error) => return Err(LineFault::from(error)),
+            Err(error) => return Err(NotSent::from(error)),
         };
         let end = bytes.iter().position(|byte| *byte == b'\n');
         let taken = match end {
@@ -89,11 +89,11 @@ impl<R: Read + Drop> Lines<R> {
     }
 }
 
-impl From<io::Error> for LineFault {
-    fn from(error: io::Error) -> LineFault {
+impl From<io::Error> for NotSent {
+    fn from(error: io::Error) -> NotSent {
         match error.kind() {
-            ErrorKind::OutOfMemory => LineFault::NoMemory,
-            _ => LineFault::NotRead(error),
+            ErrorKind::OutOfMemory => NotSent::NoMemory,
+            _ => NotSent::NotRead(error),
         }
     }
 }

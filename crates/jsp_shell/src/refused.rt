@@ -1,13 +1,13 @@
 //! What counts as refused.
 ghost use Rattle.std.specs.Prelude.{◌≡◌, ◌||◌, true, false};
 ghost use Rattle.serde_json.specs.View.{view, items_view};
-ghost use Rattle.jsp_shell.specs.Refused.{has_fault, any_has_fault, counts_as_refused, status_of};
+ghost use Rattle.jsp_shell.specs.Refused.{has_fault, any_has_fault, counts_as_refused, found_nothing, status_of};
 
 use serde_json::Value as Json;
 use std::marker::Model;
 
-/// Whether anything was refused so far: a line for which nothing was sent, an answer, or a request that had none.
-/// Contracts see it as that.
+/// Whether anything was refused so far: a line for which nothing was sent, an answer, or a request that had none; and, where
+/// an entry must be found, a search that found none. Contracts see it as that.
 #[derive(Drop)]
 pub struct Refused {
     any: bool,
@@ -43,6 +43,16 @@ impl Refused {
         self.any = self.any || is_refused(answer);
     }
 
+    /// The answer to a search that must find something may be, and this says whether it is.
+    pub(crate) fn note_search(&mut self, answer: &Json) -> bool
+        ensures noted { self.new ≡ (self.old || found_nothing (view answer.now)) }
+        ensures said { result ≡ found_nothing (view answer.now) }
+    {
+        let found_nothing = is_nothing(answer);
+        self.any = self.any || found_nothing;
+        found_nothing
+    }
+
     /// The status that a session ends with.
     pub fn status(&self) -> u8
         ensures { result ≡ status_of self.now }
@@ -67,6 +77,16 @@ fn any_has_fault(items: &[Json]) -> bool
         }
     }
     false
+}
+
+/// Whether an answer to a search says that nothing was found.
+fn is_nothing(answer: &Json) -> bool
+    ensures { result ≡ found_nothing (view answer.now) }
+{
+    match answer.get("ok") {
+        Some(found) => found.is_null(),
+        None => false,
+    }
 }
 
 /// Whether an answer counts as refused.

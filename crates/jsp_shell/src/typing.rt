@@ -1,8 +1,9 @@
 //! The thread that reads the input.
 use crate::behind::Behind;
-use crate::fault::{LineFault, ShellFault};
+use crate::fault::{NotSent, ShellFault};
 use crate::input::Lines;
-use crate::session::Session;
+use crate::session::{Exit, Session, Taken};
+use jsp_forms::LineFault;
 use std::io::Read;
 use std::sync::{Arc, Wait};
 
@@ -13,11 +14,11 @@ pub struct Typing {
 }
 
 impl Typing {
-    /// Sends what the lines of the input ask, until it ends, and tells of those that stand behind a `bye`. Nobody needs to
-    /// wait for it: once the session is left, or the connection breaks, nothing is asked any more.
+    /// Sends what the lines of the input ask, until it ends, and tells of those that stand behind one that leaves the
+    /// session. Nobody needs to wait for it: once the session is left, or the connection breaks, nothing is asked any more.
     pub fn run<R: Wait, I: Read + Drop>(self, rt: &R, input: I) {
         let read = self.read_all(rt, input);
-        if let Err(fault) = read.and_then(|()| Ok(self.session.end_input(rt)?)) {
+        if let Err(fault) = read.and_then(|()| self.session.end_input(rt)) {
             self.session.fail(rt, fault);
         }
     }
@@ -29,42 +30,47 @@ impl Typing {
         for _ in rt.forever() {
             match lines.next() {
                 Ok(Some(line)) => {
+                    self.session.end_typed(rt);
                     match self.session.take_line(rt, lines.number(), line.as_slice())? {
-                        Some(asked) if asked.is_bye => {
-                            return self.leave(rt, lines, asked.frame.as_slice());
-                        }
-                        Some(asked) => self.session.send(asked.frame.as_slice()),
-                        None => {}
+                        Taken::Done => self.session.prompt(rt)?,
+                        Taken::Asked(frame) => self.session.send_asked(rt, frame.as_slice()),
+                        Taken::Left(exit) => return self.leave(rt, lines, exit),
                     }
                 }
                 Ok(None) => return Ok(()),
                 Err(fault) => {
-                    let goes_on = matches!(fault, LineFault::TooLong);
+                    let goes_on = matches!(fault, NotSent::NotUnderstood(LineFault::TooLong));
+                    self.session.end_typed(rt);
                     self.session.refuse(rt, lines.number(), fault)?;
                     if !goes_on {
                         return Ok(());
                     }
+                    self.session.prompt(rt)?;
                 }
             }
         }
         Ok(())
     }
 
-    /// Sends `bye`. Of the lines behind it those that were read with it are told before: so they are told whenever the
-    /// server answers. The others are told until then.
+    /// Leaves the session. Of the lines behind that those that were read with it are told before: so they are told whenever
+    /// the server answers. The others are told until then.
     fn leave<R: Wait, I: Read + Drop>(
         &self,
         rt: &R,
         mut lines: Lines<I>,
-        bye: &[u8],
+        exit: Exit,
     ) -> Result<(), ShellFault> {
+        let left_by = exit.word();
         let mut behind = Behind::new(lines.number());
         if lines.is_ahead() {
-            self.tell_piece(rt, &mut lines, &mut behind)?;
+            self.tell_piece(rt, &mut lines, &mut behind, left_by)?;
         }
-        self.session.send(bye);
+        match exit {
+            Exit::Bye(frame) => self.session.send(frame.as_slice()),
+            Exit::Quit => self.session.end_input(rt)?,
+        }
         for _ in rt.forever() {
-            if !self.tell_piece(rt, &mut lines, &mut behind)? {
+            if !self.tell_piece(rt, &mut lines, &mut behind, left_by)? {
                 break;
             }
         }
@@ -77,13 +83,14 @@ impl Typing {
         rt: &R,
         lines: &mut Lines<I>,
         behind: &mut Behind,
+        left_by: &'static str,
     ) -> Result<bool, ShellFault> {
         let Some(piece) = lines.piece() else {
             return Ok(false);
         };
         for byte in piece {
             if let Some(number) = behind.next(*byte) {
-                if !self.session.refuse_left(rt, number)? {
+                if !self.session.refuse_left(rt, number, left_by)? {
                     return Ok(false);
                 }
             }

@@ -12,7 +12,7 @@ pub(crate) fn read_short(
     form: &'static Form,
     words: &[String],
 ) -> Result<Request, LineFault> {
-    let mut request = Request::new(alloc, form);
+    let mut request = Request::new(alloc, form, true);
     let mut rest = Vec::new(alloc);
     let mut place = 0usize;
     for word in words {
@@ -60,7 +60,7 @@ fn set_rest(alloc: Global, request: &mut Request, rest: &[&str]) -> Result<(), L
         },
         (None, []) => Ok(()),
         (None, [word, ..]) => Err(LineFault::TooMuch {
-            op: form.op,
+            op: form.name,
             word: String::from_str(alloc, word)?,
         }),
     }

@@ -2,26 +2,28 @@
 ghost use Rattle.std.specs.Prelude.{◌≤◌, IfOk, length};
 
 use crate::fault::LineFault;
-use crate::form::{Form, Member, Place, Usual};
+use crate::form::{Form, Member, Place, Purpose, Usual};
 use serde_json::{Map, Value as Json, put};
 use std::alloc::Global;
 
 /// The most bytes of a line, and of a payload: the limit of the protocol's version 2.
-pub(crate) const MOST_BYTES: usize = 1_048_576;
+pub const MOST_BYTES: usize = 1_048_576;
 
 /// An operation, and the members of its JSON beside `id` and `op`.
 #[derive(Drop)]
-pub(crate) struct Request {
+pub struct Request {
     form: &'static Form,
     members: Map<String, Json>,
+    is_short: bool,
 }
 
 impl Request {
-    /// A request that has no member yet.
-    pub(crate) fn new(alloc: Global, form: &'static Form) -> Request {
+    /// A request that has no member yet. It is written in a short form, or in JSON.
+    pub(crate) fn new(alloc: Global, form: &'static Form, is_short: bool) -> Request {
         Request {
             form,
             members: Map::new(alloc),
+            is_short,
         }
     }
 
@@ -29,9 +31,19 @@ impl Request {
         self.form
     }
 
-    /// Whether it ends the session.
-    pub(crate) fn is_bye(&self) -> bool {
-        self.form.op == "bye"
+    /// What it is for.
+    pub fn purpose(&self) -> Purpose {
+        self.form.purpose
+    }
+
+    /// Whether it was written in a short form.
+    pub(crate) fn is_short(&self) -> bool {
+        self.is_short
+    }
+
+    /// The value of a member.
+    pub(crate) fn get(&self, name: &str) -> Option<&Json> {
+        self.members.get(name)
     }
 
     /// Gives it a member, unless it has that.
@@ -74,7 +86,7 @@ impl Request {
             && !self.members.contains_key(member.name));
         match missing {
             Some(member) => Err(LineFault::Missing {
-                op: self.form.op,
+                op: self.form.name,
                 member: member.name,
             }),
             None => Ok(()),
@@ -82,10 +94,14 @@ impl Request {
     }
 
     /// Its payload under this id.
-    pub(crate) fn payload(self, alloc: Global, id: u64) -> Result<Vec<u8>, LineFault>
+    pub fn payload(self, alloc: Global, id: u64) -> Result<Vec<u8>, LineFault>
         ensures { IfOk result (λ payload. length payload.items ≤ 1048576) }
     {
-        let Request { form, mut members } = self;
+        let Request {
+            form,
+            mut members,
+            ..
+        } = self;
         put(&mut members, alloc, "id", Json::from(id))?;
         let op = Json::try_from_str(alloc, form.op)?;
         put(&mut members, alloc, "op", op)?;

@@ -23,7 +23,7 @@ pub(crate) fn read_json(alloc: Global, line: &str) -> Result<Request, LineFault>
     if form.op != op.as_str() {
         return Err(LineFault::UnknownOperation(op));
     }
-    let mut request = Request::new(alloc, form);
+    let mut request = Request::new(alloc, form, false);
     set_all(alloc, &mut request, members)?;
     request.check()?;
     Ok(request)
@@ -44,7 +44,7 @@ fn set_all(
             Some(member) => request.set(alloc, member, value)?,
             None => {
                 return Err(LineFault::TooMuch {
-                    op: form.op,
+                    op: form.name,
                     word: name,
                 });
             }

@@ -1,6 +1,7 @@
 //! What a line of the input asks.
 use crate::fault::LineFault;
-use crate::form::{Form, form_of};
+use crate::form::form_of;
+use crate::help::help;
 use crate::json::read_json;
 use crate::request::Request;
 use crate::short::read_short;
@@ -10,16 +11,16 @@ use std::str;
 
 /// What a line of the input asks.
 #[derive(Drop)]
-pub(crate) enum Line {
+pub enum Line {
     /// It is empty, or a comment.
     Nothing,
-    /// How all operations are written, or one.
-    Help(Option<&'static Form>),
+    /// How all operations are written, or one: this text, whose lines end by a newline each.
+    Help(String),
     Request(Request),
 }
 
 /// What a line asks, where it is understood.
-pub(crate) fn read_line(alloc: Global, line: &[u8]) -> Result<Line, LineFault> {
+pub fn read_line(alloc: Global, line: &[u8]) -> Result<Line, LineFault> {
     let Ok(text) = str::from_utf8(line) else {
         return Err(LineFault::NotUtf8);
     };
@@ -44,9 +45,9 @@ pub(crate) fn read_line(alloc: Global, line: &[u8]) -> Result<Line, LineFault> {
 /// Help on all operations, or on one.
 fn read_help(alloc: Global, words: &[String]) -> Result<Line, LineFault> {
     match words {
-        [] => Ok(Line::Help(None)),
+        [] => Ok(Line::Help(help(alloc, None)?)),
         [op] => match form_of(op.as_str()) {
-            Some(form) => Ok(Line::Help(Some(form))),
+            Some(form) => Ok(Line::Help(help(alloc, Some(form))?)),
             None => Err(LineFault::UnknownOperation(op.clone()?)),
         },
         [_, word, ..] => Err(LineFault::TooMuch {

@@ -50,11 +50,34 @@ pub(crate) struct Member {
     pub(crate) place: Place,
 }
 
+/// What a request is for.
+#[derive(Clone, Copy, PartialEq, Eq)]
+pub enum Purpose {
+    /// To declare a class.
+    Declare,
+    /// To find entries, which there may be none of.
+    Search,
+    /// To be told of entries until that is ended.
+    Watch,
+    /// To list entries. It opens a match set, whose pages are asked for afterwards.
+    List,
+    /// To leave the session at once.
+    Bye,
+    /// To leave the session once all is answered. Nothing is sent for it then.
+    Quit,
+    /// All else.
+    Other,
+}
+
 /// An operation and its members beside `id` and `op`.
 pub(crate) struct Form {
-    pub(crate) op: &'static str,
+    /// Its name in short forms.
+    pub(crate) name: &'static str,
     /// Another name in short forms.
     pub(crate) also: Option<&'static str>,
+    /// The operation of the protocol that is asked.
+    pub(crate) op: &'static str,
+    pub(crate) purpose: Purpose,
     pub(crate) members: &'static [Member],
     /// What it does.
     pub(crate) about: &'static str,
@@ -98,7 +121,7 @@ impl Form {
 pub(crate) fn form_of(name: &str) -> Option<&'static Form> {
     FORMS
         .iter()
-        .find(|form| form.op == name || form.also == Some(name))
+        .find(|form| form.name == name || form.also == Some(name))
 }
 
 /// A member: its name, its other name where it has one, its shape and its place.
@@ -138,6 +161,8 @@ const TEMPLATE: Member = member!("template", Template, Place::Rest);
 const TEMPLATES: Member = member!("templates", Templates, Place::Rest);
 // The time that is asked for; -1 leaves it to the server.
 const ASKED: Member = member!("lease", Number, Place::Named(Usual::Number(-1)));
+// The same where it is as long as a server grants.
+const LONGEST: Member = member!("lease", Number, Place::Named(Usual::Number(3_600_000)));
 
 const TIMEOUT: Member = member!("timeout" | "wait", Number, Place::Named(Usual::Number(0)));
 // The transaction that it is done under.
@@ -161,32 +186,38 @@ const SET: Member = member!("set", Number, Place::Word);
 
 const VERSION: Member = member!("version", Number, Place::Word);
 
-/// A form: its name, its other name where it has one, its members, what it does, and an example.
+/// A form: its name, its other name where it has one, the operation that it asks where that has another name, what it is
+/// for where that matters to the client, its members, what it does, and an example.
 macro_rules! form {
-    ($op:literal, [$($member:expr),*], $about:literal, $example:literal) => {
-        Form {
-            op: $op,
-            also: None,
-            members: &[$($member),*],
-            about: $about,
-            example: $example,
-        }
+    ($name:literal, $members:expr, $about:literal, $example:literal) => {
+        form!($name, None, $name, Other, $members, $about, $example)
     };
-    ($op:literal | $also:literal, [$($member:expr),*], $about:literal, $example:literal) => {
+    ($name:literal for $purpose:ident, $members:expr, $about:literal, $example:literal) => {
+        form!($name, None, $name, $purpose, $members, $about, $example)
+    };
+    ($name:literal | $also:literal, $members:expr, $about:literal, $example:literal) => {
+        form!($name, Some($also), $name, Other, $members, $about, $example)
+    };
+    ($name:literal asks $op:literal for $purpose:ident, $members:expr, $about:literal, $example:literal) => {
+        form!($name, None, $op, $purpose, $members, $about, $example)
+    };
+    ($name:literal, $also:expr, $op:literal, $purpose:ident, $members:expr, $about:literal, $example:literal) => {
         Form {
+            name: $name,
+            also: $also,
             op: $op,
-            also: Some($also),
-            members: &[$($member),*],
+            purpose: Purpose::$purpose,
+            members: &$members,
             about: $about,
             example: $example,
         }
     };
 }
 
-/// Every operation.
-pub(crate) static FORMS: [Form; 24] = [
+/// Every operation of the protocol, and behind them the client's own, none of which the protocol's JSON has.
+pub(crate) static FORMS: [Form; 27] = [
     form!(
-        "declare",
+        "declare" for Declare,
         [CLASS, FIELDS, PARENT],
         "declares a class; a kind is int, text or bool",
         "declare Job k:int who:text"
@@ -198,25 +229,25 @@ pub(crate) static FORMS: [Form; 24] = [
         "write a Job k=1 who=ann lease=60000"
     ),
     form!(
-        "read",
+        "read" for Search,
         [SPACE, TEMPLATE, TIMEOUT, UNDER],
         "reads an entry that matches, or waits for one",
         "read a Job k=1 timeout=5000"
     ),
     form!(
-        "take",
+        "take" for Search,
         [SPACE, TEMPLATE, TIMEOUT, UNDER],
         "takes an entry that matches, or waits for one",
         "take a Job k=1 timeout=5000"
     ),
     form!(
-        "read_if",
+        "read_if" for Search,
         [SPACE, TEMPLATE, TIMEOUT, UNDER],
         "reads an entry if there is one; waits only while a transaction holds it",
         "read_if a Job k=1 timeout=5000"
     ),
     form!(
-        "take_if",
+        "take_if" for Search,
         [SPACE, TEMPLATE, TIMEOUT, UNDER],
         "takes an entry if there is one; waits only while a transaction holds it",
         "take_if a Job k=1 timeout=5000"
@@ -273,7 +304,7 @@ pub(crate) static FORMS: [Form; 24] = [
     ),
     form!("spaces", [], "names the spaces", "spaces"),
     form!(
-        "bye",
+        "bye" for Bye,
         [],
         "ends the session, and gives up what it waits for",
         "bye"
@@ -291,7 +322,7 @@ pub(crate) static FORMS: [Form; 24] = [
         "write_all a Job k=1, Job k=2 lease=60000"
     ),
     form!(
-        "take_many",
+        "take_many" for Search,
         [SPACE, TEMPLATES, MOST, TIMEOUT, UNDER],
         "takes entries that match any of the templates",
         "take_many a Job k=1, Job k=2 most=16 timeout=5000"
@@ -309,4 +340,22 @@ pub(crate) static FORMS: [Form; 24] = [
         "next 7 most=16"
     ),
     form!("close_set", [SET], "closes a match set", "close_set 7"),
+    form!(
+        "list" asks "contents" for List,
+        [SPACE, TEMPLATE, LONGEST, UNDER],
+        "prints the entries that match, a line each, and then that it is done",
+        "list a Job k=1"
+    ),
+    form!(
+        "watch" asks "notify" for Watch,
+        [SPACE, TEMPLATE, LONGEST, HANDBACK, UNDER],
+        "prints an event of each matching entry that is written, for as long as the lease says",
+        "watch a Job k=1"
+    ),
+    form!(
+        "quit" asks "bye" for Quit,
+        [],
+        "ends the session once all is answered, as the end of the input does",
+        "quit"
+    ),
 ];

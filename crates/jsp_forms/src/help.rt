@@ -6,7 +6,7 @@ use std::fmt;
 const BEFORE: &str = "\
 A line is a request in JSON, without its id, or one of these. A value is a number, true, false or else text; quotes, as
 in JSON, make text of what has blanks, commas or only digits. A field that is named like a word of the form, as lease,
-needs JSON. `help take` says more of take.
+needs JSON. `help take` says more of take. `rlwrap jsp client ADDR` lets lines be edited and found again.
 ";
 
 impl fmt::Display for Member {
@@ -46,7 +46,7 @@ fn words(shape: Shape) -> &'static str {
 
 impl fmt::Display for Form {
     fn fmt<W: fmt::Write>(&self, f: &mut fmt::Formatter<W>) -> fmt::Result {
-        write!(f, "{}", self.op)?;
+        write!(f, "{}", self.name)?;
         if let Some(also) = self.also {
             write!(f, "|{also}")?;
         }
