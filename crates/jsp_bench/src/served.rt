@@ -1,6 +1,6 @@
 //! A course of one session as a server serves it, over a line in memory.
 use crate::digest::Digest;
-use jsp_floor::{Bounds, Clock, Counts, Door, Gate, Hangup, Knock, run_house};
+use jsp_floor::{Bounds, Clock, Counts, Door, Gate, Hangup, Knock, LineEnd, run_house};
 use jsp_house::Hall;
 use jsp_model::Config;
 use std::alloc::Global;
@@ -114,6 +114,10 @@ impl Hangup for Connected {
     fn silent(&self) -> u64 {
         0
     }
+
+    fn opened(&self, _session: u64) {}
+
+    fn ended(&self, _why: LineEnd) {}
 }
 
 impl<'a> Door<Incoming<'a>, Outgoing<'a>, Connected> for OneLine<'a> {
@@ -142,6 +146,8 @@ impl Gate for Still {
     fn written(&self, _session: u64, _nth: u64) {}
 
     fn cut(&self, _session: u64) {}
+
+    fn sealed(&self) {}
 
     fn wants_counts(&self) -> bool {
         false

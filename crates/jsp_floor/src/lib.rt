@@ -14,7 +14,7 @@ pub use door::{Door, Knock};
 pub use jsp_closing::{Closed, LineReport, RunFault};
 pub use jsp_drive::Ended;
 pub use jsp_line::{
-    Clock, Counted, Counts, Floor, Gate, Hangup, Health, Left, LineDone, OutDone, OutHalf,
+    Clock, Counted, Counts, Floor, Gate, Hangup, Health, Left, LineDone, LineEnd, OutDone, OutHalf,
     ReadDone, Shared, ShutFor, SpaceCounts, Start, Transcript,
 };
 pub use run::{Bounds, run_house};

@@ -9,7 +9,7 @@ use crate::door::Door;
 use crate::served::Served;
 use jsp_closing::RunFault;
 use jsp_kept::InParts;
-use jsp_line::{Floor, Hangup, Left, LineDone, ShutFor};
+use jsp_line::{Floor, Hangup, Left, LineDone, LineEnd, ShutFor};
 use jsp_model::Why;
 use std::alloc::Global;
 use std::io::{Read, Write};
@@ -31,6 +31,8 @@ const SILENCE: u64 = 60_000;
 struct Line<X> {
     session: u64,
     hangup: Arc<X>,
+    /// Why the server has it end, where it has.
+    why: Option<ShutFor>,
 }
 
 // The lines that are being served, and what those that have ended answered.
@@ -83,27 +85,34 @@ impl<R: Read + Drop, W: Write + Drop, X: Hangup + Drop, D: Door<R, W, X>> Lines<
         let Ok(hangup) = Arc::try_clone(hangup) else {
             return false;
         };
-        let line = Line { session, hangup };
+        let line = Line {
+            session,
+            hangup,
+            why: None,
+        };
         self.progress.lock(rt).lines.push(line).is_ok()
     }
 
-    /// A line that came through the door has ended. Once an era was sealed nothing is kept of what
-    /// it read and wrote.
+    /// A line that came through the door has ended, for the reason that is answered. Once an era was
+    /// sealed nothing is kept of what it read and wrote.
     pub(crate) fn leave<A: Ledger, O: Ledger, T: Wait>(
         &self,
         rt: &T,
         done: LineDone<A, O, R, W>,
         left: Left,
-    )
+    ) -> LineEnd
         requires { (read written : Vec ℕ Global) → done.read.transcript ≡ Whole read → done.out.transcript ≡ Whole written
             → MayCome D.gives R.remaining W.contents
             (report_of done.read.seat.session (found_memory done.read.why done.why done.out.health) done.read.ended read written (nat_lt 0 done.reader.failures) (nat_lt 0 done.out.writer.failures) (is_some left.shut_for)) }
     {
         let session = done.read.seat.session();
+        let why = LineEnd::of(&done, &left);
         let mut progress = self.progress.lock(rt);
+        let by_server = why_of(progress.lines.as_slice(), session);
         progress.served.add_line(done, left);
         progress.lines.retain(|line| line.session != session);
         self.ended.notify_all();
+        by_server.map_or(why, LineEnd::Shut)
     }
 
     /// Shuts the sessions of all lines that are served, so that these end, and ends the connections
@@ -115,8 +124,9 @@ impl<R: Read + Drop, W: Write + Drop, X: Hangup + Drop, D: Door<R, W, X>> Lines<
         floor: &Floor<H, A, O>,
     ) {
         let mut progress = self.progress.lock(rt);
-        for line in progress.lines.as_slice() {
+        for line in progress.lines.as_mut_slice() {
             floor.shut_for(rt, line.session, ShutFor::Ending);
+            line.why = Some(ShutFor::Ending);
         }
         for _ in 0..LOOKS {
             if progress.lines.is_empty() {
@@ -166,11 +176,12 @@ impl<R: Read + Drop, W: Write + Drop, X: Hangup + Drop, D: Door<R, W, X>> Lines<
         }
     }
 
-    /// Ends the connection of the session's line, if it is still served.
-    pub(crate) fn hang_up<T: Wait>(&self, rt: &T, session: u64) {
-        let progress = self.progress.lock(rt);
-        for line in progress.lines.as_slice() {
+    /// Ends the connection of the session's line for this reason, if it is still served.
+    pub(crate) fn hang_up<T: Wait>(&self, rt: &T, session: u64, why: ShutFor) {
+        let mut progress = self.progress.lock(rt);
+        for line in progress.lines.as_mut_slice() {
             if line.session == session {
+                line.why = Some(why);
                 line.hangup.hang_up();
             }
         }
@@ -224,4 +235,9 @@ impl<R: Read + Drop, W: Write + Drop, X: Hangup + Drop, D: Door<R, W, X>> Lines<
         let Progress { lines: _, served } = progress.into_inner();
         served
     }
+}
+
+// Why the server has the session's line end, where it has.
+fn why_of<X>(lines: &[Line<X>], session: u64) -> Option<ShutFor> {
+    lines.iter().find(|line| line.session == session)?.why
 }

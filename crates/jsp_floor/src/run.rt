@@ -14,7 +14,7 @@ use crate::end::finish;
 use crate::lines::Lines;
 use jsp_closing::{Closed, RunFault};
 use jsp_kept::{AskSeat, InParts, Kept, OutSeat};
-use jsp_line::{Clock, Counts, Floor, Gate, Hangup, LineDone, Shared, ShutFor, start};
+use jsp_line::{Clock, Counts, Floor, Gate, Hangup, LineDone, LineEnd, Shared, ShutFor, start};
 use jsp_model::Config;
 use std::alloc::Global;
 use std::io::{Read, Write};
@@ -82,8 +82,12 @@ impl<R: Read + Drop, W: Write + Drop, X: Hangup + Drop, D: Door<R, W, X>, G: Gat
     }
 
     fn cut(&self, session: u64) {
-        self.lines.hang_up(self.rt, session);
+        self.lines.hang_up(self.rt, session, ShutFor::Backlog);
         self.gate.cut(session);
+    }
+
+    fn sealed(&self) {
+        self.gate.sealed();
     }
 
     fn wants_counts(&self) -> bool {
@@ -137,47 +141,66 @@ impl<
         };
         self.shared.floor.shut_silent(rt, session);
         if !self.shared.floor.is_open(rt, session) {
-            self.lines.hang_up(rt, session);
+            self.lines.hang_up(rt, session, ShutFor::Silent);
             self.lines.wait_for_place(rt);
         }
     }
 
-    // Opens the session of a line that has come, unless as many are served as may be at once, or
-    // memory is wanting: its connection is closed then.
-    fn welcome(&self, reader: R, writer: W, hangup: X) -> Guest<Caller<A, O, R, W, X>>
-        requires { D.gives reader writer }
-        ensures { IfCaller result (λ caller. D.gives caller.reader caller.writer) }
+    // Opens a session for a line that has come, unless as many are served as may be at once, or
+    // memory is wanting.
+    fn admit(&self, hangup: &Arc<X>) -> Result<(AskSeat<A>, OutSeat<O>), LineEnd>
+        ensures { IfOk result (λ seats. IsSeated seats.0 seats.1) }
     {
         let rt = self.shared.rt;
         if self.lines.is_full(rt) {
             self.free_place();
         }
-        if self.lines.is_full(rt) || !self.lines.make_room(rt) {
-            return Guest::Refused;
+        if self.lines.is_full(rt) {
+            return Err(LineEnd::Full);
         }
-        let Ok(hangup) = Arc::new(self.shared.alloc, hangup) else {
-            return Guest::Refused;
-        };
+        if !self.lines.make_room(rt) {
+            return Err(LineEnd::NoMemory);
+        }
         let (asks, outs) = match self.shared.floor.begin(rt) {
             Ok(seats) => seats,
             Err(stopped) => {
                 self.lines.stop(rt, Some(stopped.why));
-                return Guest::Refused;
+                return Err(LineEnd::NoMemory);
             }
         };
         let session = asks.session();
-        if !self.lines.enter(rt, session, &hangup) {
+        if !self.lines.enter(rt, session, hangup) {
             self.shared.floor.shut(rt, session);
             self.lines.lose(rt, session);
-            return Guest::Refused;
+            return Err(LineEnd::NoMemory);
         }
-        Guest::Line(Caller {
-            reader,
-            writer,
-            hangup,
-            asks,
-            outs,
-        })
+        Ok((asks, outs))
+    }
+
+    // Opens the session of a line that has come. Where it gets none its connection is closed.
+    fn welcome(&self, reader: R, writer: W, hangup: X) -> Guest<Caller<A, O, R, W, X>>
+        requires { D.gives reader writer }
+        ensures { IfCaller result (λ caller. D.gives caller.reader caller.writer) }
+    {
+        let Ok(hangup) = Arc::new(self.shared.alloc, hangup) else {
+            return Guest::Refused;
+        };
+        match self.admit(&hangup) {
+            Ok((asks, outs)) => {
+                hangup.opened(asks.session());
+                Guest::Line(Caller {
+                    reader,
+                    writer,
+                    hangup,
+                    asks,
+                    outs,
+                })
+            }
+            Err(why) => {
+                hangup.ended(why);
+                Guest::Refused
+            }
+        }
     }
 
     // Waits at the door for the next line.
@@ -246,7 +269,8 @@ impl<
         let rt = self.shared.rt;
         let done = self.serve_or_turn_away(reader, writer, &*hangup, asks, outs);
         let left = self.shared.floor.leave(rt, done.read.seat.session());
-        self.lines.leave(rt, done, left);
+        let why = self.lines.leave(rt, done, left);
+        hangup.ended(why);
     }
 
     // Serves all lines of the door, each in a thread of its own, and settles meanwhile. A line for

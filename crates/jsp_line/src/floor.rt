@@ -62,10 +62,6 @@ pub struct Floor<H: InParts, A: Ledger, O: Ledger> {
     settling: Condvar,
     /// The last reading of the clock that was acted. It is set under the lock.
     time: AtomicU64,
-    /// How many bytes lines read and wrote since they were last too many for an era. It is set
-    /// under the lock.
-    bytes: AtomicU64,
-    most_bytes: u64,
     most_waiting: u64,
     most_weight: u64,
     /// Whether an act may have left sessions open for which too many answers wait. It is set under
@@ -263,12 +259,10 @@ impl<H: InParts, A: Ledger, O: Ledger> Floor<H, A, O> {
     ) -> Result<Floor<H, A, O>, NoMemory> {
         let spaces = kept.spaces().len();
         Ok(Floor {
-            locked: Mutex::new(Locked::new(alloc, kept)),
+            locked: Mutex::new(Locked::new(alloc, kept, most_bytes)),
             lines: signals(alloc, lines)?,
             settling: Condvar::new(),
             time: AtomicU64::new(0),
-            bytes: AtomicU64::new(0),
-            most_bytes,
             most_waiting,
             most_weight,
             are_more_over: AtomicBool::new(false),
@@ -339,18 +333,6 @@ impl<H: InParts, A: Ledger, O: Ledger> Floor<H, A, O> {
             self.time.store(time, Ordering::SeqCst);
         }
         Ok(())
-    }
-
-    // Counts what a line read and wrote, and begins a new era where that is too much for one: its
-    // steps hold what was read, and its lines keep both. The lock is held.
-    fn weigh(&self, kept: &mut Kept<H, A, O>, bytes: u64) {
-        let all = self.bytes.load(Ordering::SeqCst).saturating_add(bytes);
-        let is_over = all > self.most_bytes;
-        if is_over {
-            kept.seal();
-        }
-        let left = if is_over { 0 } else { all };
-        self.bytes.store(left, Ordering::SeqCst);
     }
 
     // Wakes the line of each session that was told something since they were woken last and has
@@ -464,9 +446,11 @@ impl<H: InParts, A: Ledger, O: Ledger> Floor<H, A, O> {
     {
         for _ in rt.forever() {
             let mut locked = self.lock(rt);
-            match locked.kept.finish_some(STEPS) {
-                Err(stopped) if stopped.why == Why::EraFull => {}
-                _ => return locked.begin(),
+            if locked.kept.apply_before_turn() {
+                match locked.kept.finish_some(STEPS) {
+                    Err(stopped) if stopped.why == Why::EraFull => {}
+                    _ => return locked.begin(),
+                }
             }
             drop(locked);
             self.give_way(rt);
@@ -516,7 +500,7 @@ impl<H: InParts, A: Ledger, O: Ledger> Floor<H, A, O> {
     {
         let mut guard = self.lock(rt);
         let locked = &mut *guard;
-        self.weigh(&mut locked.kept, bytes);
+        locked.weigh(bytes);
         locked.kept.take_old(old);
         let went = self.go_on(&mut locked.kept, time);
         let mut held = hold(&mut locked.kept, asks, went, input, outs);
@@ -539,12 +523,11 @@ impl<H: InParts, A: Ledger, O: Ledger> Floor<H, A, O> {
     ) -> (Result<Vec<Said>, Stopped>, bool)
         ensures { outs.new ≡ taking outs.old (length (said_in result.0)) }
     {
-        let mut guard = self.lock(rt);
-        let kept = &mut guard.kept;
-        self.weigh(kept, bytes);
-        let said = take_from(kept, outs);
+        let mut locked = self.lock(rt);
+        locked.weigh(bytes);
+        let said = take_from(&mut locked.kept, outs);
         self.note_refusals(&said);
-        (said, kept.is_sealed())
+        (said, locked.kept.is_sealed())
     }
 
     /// Waits until something waits for the session, or it is closed, or an era was sealed, where
@@ -591,14 +574,15 @@ impl<H: InParts, A: Ledger, O: Ledger> Floor<H, A, O> {
     }
 
     /// Wakes all lines where an era was sealed for the first time, so that also those at rest drop
-    /// what they keep. No lock is held for that.
-    pub(crate) fn tell_of_seal<T: Wait>(&self, rt: &T) {
+    /// what they keep, and says whether one was. No lock is held for that.
+    pub(crate) fn tell_of_seal<T: Wait>(&self, rt: &T) -> bool {
         if self.is_sealed.load(Ordering::SeqCst) || !self.sees_seal(rt) {
-            return;
+            return false;
         }
         for signal in self.lines.as_slice() {
             signal.notify_all();
         }
+        true
     }
 
     // Whether an era was sealed, which is known from then on.
@@ -673,8 +657,6 @@ impl<H: InParts, A: Ledger, O: Ledger> Floor<H, A, O> {
             lines: _,
             settling: _,
             time: _,
-            bytes: _,
-            most_bytes: _,
             most_waiting: _,
             most_weight: _,
             are_more_over: _,
@@ -686,7 +668,7 @@ impl<H: InParts, A: Ledger, O: Ledger> Floor<H, A, O> {
             refusals: _,
             spaces: _,
         } = self;
-        let Locked { kept, notes: _ } = locked.into_inner();
+        let Locked { kept, .. } = locked.into_inner();
         kept
     }
 }

@@ -16,6 +16,9 @@ pub trait Gate {
     /// After a session was shut since its client reads no answers. Its connection is to be ended.
     fn cut(&self, session: u64);
 
+    /// After an era was sealed for the first time.
+    fn sealed(&self);
+
     /// Whether somebody wants to know how much stands in the house. Then it is counted, and told
     /// once.
     fn wants_counts(&self) -> bool;

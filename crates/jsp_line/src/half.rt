@@ -13,6 +13,7 @@ ghost use Rattle.jsp_line.specs.Halves.{is_sound, said_in, Puts, Writes, WritesP
 
 use crate::counted::Counted;
 use crate::floor::{Floor, Held, Part};
+use crate::patience::Patience;
 use crate::transcript::Transcript;
 use jsp_drive::encode;
 use jsp_kept::{AskSeat, InParts, MOST_OLD, OutSeat};
@@ -24,15 +25,7 @@ use std::io::Write;
 use std::marker::{Brand, Model, PhantomData};
 use std::sync::Wait;
 use std::sync::ledger::Ledger;
-use std::thread;
-use std::time::{Clock, Duration};
-
-/// How often memory is asked for again where an answer finds none: what is answered was done, and
-/// can't be done again.
-const TRIES: u64 = 100;
-
-/// After how many milliseconds it is asked for again.
-const PAUSE: u64 = 50;
+use std::time::Clock;
 
 /// The most bytes that may wait to be written while a line goes on asking.
 const PILE: usize = 65_536;
@@ -161,26 +154,29 @@ fn pile_frame(alloc: Global, pile: &mut Vec<u8>, said: &Said) -> Result<(), NoMe
 }
 
 // Adds the frame of an answer. Where there is no memory for it, it waits for some.
-fn pile_one<T: Clock>(
-    rt: &T,
+fn pile_one<H: InParts, A: Ledger, O: Ledger, T: Wait + Clock>(
+    patience: &mut Patience<'_, H, A, O, T>,
     alloc: Global,
     pile: &mut Vec<u8>,
     said: &Said,
 ) -> Result<(), NoMemory>
     ensures { OnOk result (pile.new.items ≡ pile.old.items ++ framed said.now) }
 {
-    for _ in 0..TRIES {
+    let rt = patience.rt;
+    for _ in rt.forever() {
         if pile_frame(alloc, pile, said).is_ok() {
             return Ok(());
         }
-        pause(rt);
+        if !patience.lasts() {
+            return Err(NoMemory);
+        }
     }
-    Err(NoMemory)
+    unreachable!()
 }
 
 // Adds the frames of answers.
-fn pile_up<T: Clock>(
-    rt: &T,
+fn pile_up<H: InParts, A: Ledger, O: Ledger, T: Wait + Clock>(
+    patience: &mut Patience<'_, H, A, O, T>,
     alloc: Global,
     pile: &mut Vec<u8>,
     said: &[Said],
@@ -188,13 +184,9 @@ fn pile_up<T: Clock>(
     ensures { OnOk result (pile.new.items ≡ pile.old.items ++ frames said.now) }
 {
     for one in said {
-        pile_one(rt, alloc, pile, one)?;
+        pile_one(patience, alloc, pile, one)?;
     }
     Ok(())
-}
-
-fn pause<T: Clock>(rt: &T) {
-    thread::sleep(rt, Duration::from_millis(PAUSE));
 }
 
 // Whether answers wait that no memory was found to take.
@@ -209,21 +201,27 @@ fn is_refused(received: &Result<bool, Stopped>) -> bool {
 }
 
 // Puts answers on a pile, but where the half is broken.
-fn put<T: Clock>(rt: &T, alloc: Global, pile: &mut Vec<u8>, health: &mut Health, said: &[Said])
+fn put<H: InParts, A: Ledger, O: Ledger, T: Wait + Clock>(
+    patience: &mut Patience<'_, H, A, O, T>,
+    alloc: Global,
+    pile: &mut Vec<u8>,
+    health: &mut Health,
+    said: &[Said],
+)
     ensures put { Puts health.old pile.old.items said.now health.new pile.new.items }
     ensures failed { health.new ≡ Failed → health.old ≡ Failed }
 {
     if !health.is_sound() {
         return;
     }
-    if pile_up(rt, alloc, pile, said).is_err() {
+    if pile_up(patience, alloc, pile, said).is_err() {
         *health = Health::NoMemory;
     }
 }
 
 // Takes what a hold of the house's lock gave, and says whether there was anything.
-fn receive<T: Clock>(
-    rt: &T,
+fn receive<H: InParts, A: Ledger, O: Ledger, T: Wait + Clock>(
+    patience: &mut Patience<'_, H, A, O, T>,
     alloc: Global,
     pile: &mut Vec<u8>,
     health: &mut Health,
@@ -243,7 +241,7 @@ fn receive<T: Clock>(
     }
     match said {
         Ok(said) => {
-            put(rt, alloc, pile, health, said.as_slice());
+            put(patience, alloc, pile, health, said.as_slice());
             Ok(!said.is_empty())
         }
         Err(stopped) => Err(stopped),
@@ -378,8 +376,9 @@ impl<O: Ledger, W: Write, S: Start> OutHalf<O, W, S> {
             &mut self.past,
         );
         self.bytes = 0;
+        let mut patience = Patience::new(rt, floor, self.seat.session());
         let received = receive(
-            rt,
+            &mut patience,
             self.alloc,
             &mut self.pile,
             &mut self.health,
@@ -410,15 +409,14 @@ impl<O: Ledger, W: Write, S: Start> OutHalf<O, W, S> {
     ) -> Result<bool, Stopped>
         ensures session { self.new.seat.session ≡ self.old.seat.session }
     {
-        let mut received = self.take_once(rt, floor);
-        for _ in 0..TRIES {
-            if !is_refused(&received) {
-                break;
+        let mut patience = Patience::new(rt, floor, self.seat.session());
+        for _ in rt.forever() {
+            let received = self.take_once(rt, floor);
+            if !is_refused(&received) || !patience.lasts() {
+                return received;
             }
-            pause(rt);
-            received = self.take_once(rt, floor);
         }
-        received
+        unreachable!()
     }
 
     fn take_once<H: InParts, A: Ledger, T: Wait + Clock>(
@@ -430,8 +428,9 @@ impl<O: Ledger, W: Write, S: Start> OutHalf<O, W, S> {
     {
         let (said, is_sealed) = floor.take(rt, self.bytes, &mut self.seat);
         self.bytes = 0;
+        let mut patience = Patience::new(rt, floor, self.seat.session());
         receive(
-            rt,
+            &mut patience,
             self.alloc,
             &mut self.pile,
             &mut self.health,

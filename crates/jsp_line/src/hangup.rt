@@ -1,7 +1,9 @@
 //! A line's connection as it is seen from within.
+use crate::line_end::LineEnd;
 use std::sync::atomic::AtomicU64;
 
-/// The connection of a line, which can be ended, and knows how much was asked.
+/// The connection of a line, which can be ended, knows how much was asked, and is told how its line
+/// fares.
 pub trait Hangup {
     /// Ends it both ways: whoever waits for its next bytes goes on, and its client sees that it
     /// ended.
@@ -12,4 +14,10 @@ pub trait Hangup {
 
     /// For how many milliseconds none was.
     fn silent(&self) -> u64;
+
+    /// Its session was opened, which has this number.
+    fn opened(&self, session: u64);
+
+    /// Its line has ended, or isn't served at all.
+    fn ended(&self, why: LineEnd);
 }

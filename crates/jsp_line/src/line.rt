@@ -203,6 +203,7 @@ impl<
                 seat: asks,
                 transcript: Transcript::new(self.alloc),
                 ended: Ended::Bound,
+                is_too_long: false,
                 why: None,
             },
             out: OutDone {

@@ -1,7 +1,8 @@
 //! What lies under a floor's lock.
-ghost use Rattle.std.specs.Prelude.{◌≡◌, ◌∷◌, ◌++◌, [], true, false, None, if◌then◌else◌, IfOk, OnErr, OnOk};
+ghost use Rattle.std.specs.Prelude.{◌≡◌, ◌<◌, ◌≤◌, ◌+◌, ◌∷◌, ◌++◌, [], true, false, None, if◌then◌else◌, IfOk, OnErr, OnOk};
 ghost use Rattle.jsp_model.specs.Lookup.{is_open};
 ghost use Rattle.jsp_model.specs.House.{Makes, shuts};
+ghost use Rattle.jsp_kept.specs.Calls.{Seals};
 ghost use Rattle.jsp_line.specs.Notes.{noting, reason_of};
 ghost use Rattle.jsp_line.specs.Seats.{IsSeated};
 
@@ -17,6 +18,9 @@ use std::sync::ledger::Ledger;
 pub(crate) struct Locked<H: InParts, A: Ledger, O: Ledger> {
     pub(crate) kept: Kept<H, A, O>,
     pub(crate) notes: Notes,
+    /// How many bytes lines read and wrote since they were last too many for an era.
+    pub(crate) bytes: u64,
+    pub(crate) most_bytes: u64,
 }
 
 /// How a session's line leaves a floor.
@@ -29,13 +33,34 @@ pub struct Left {
 }
 
 impl<H: InParts, A: Ledger, O: Ledger> Locked<H, A, O> {
-    pub(crate) fn new(alloc: Global, kept: Kept<H, A, O>) -> Locked<H, A, O>
+    pub(crate) fn new(alloc: Global, kept: Kept<H, A, O>, most_bytes: u64) -> Locked<H, A, O>
         ensures kept { result.kept ≡ kept }
         ensures notes { result.notes ≡ [] }
+        ensures bytes { (result.bytes ≡ 0) × (result.most_bytes ≡ most_bytes) }
     {
         Locked {
             kept,
             notes: Notes::new(alloc),
+            bytes: 0,
+            most_bytes,
+        }
+    }
+
+    /// Counts what a line read and wrote, and begins a new era where that is too much for one: its
+    /// steps hold what was read, and its lines keep both.
+    pub(crate) fn weigh(&mut self, bytes: u64)
+        ensures seals { self.old.most_bytes < self.old.bytes + bytes → Seals self.old.kept self.new.kept }
+        ensures anew { self.old.most_bytes < self.old.bytes + bytes → self.new.bytes ≡ 0 }
+        ensures same { self.old.bytes + bytes ≤ self.old.most_bytes → self.new.kept ≡ self.old.kept }
+        ensures counted { self.old.bytes + bytes ≤ self.old.most_bytes → self.new.bytes ≡ self.old.bytes + bytes }
+        ensures notes { self.new.notes ≡ self.old.notes }
+        ensures most { self.new.most_bytes ≡ self.old.most_bytes }
+    {
+        if is_within(self.bytes, bytes, self.most_bytes) {
+            self.bytes += bytes;
+        } else {
+            self.kept.seal();
+            self.bytes = 0;
         }
     }
 
@@ -85,4 +110,12 @@ impl<H: InParts, A: Ledger, O: Ledger> Locked<H, A, O> {
             shut_for: self.notes.reason_of(session),
         }
     }
+}
+
+/// Whether so many and so many more are no more than the most.
+fn is_within(so_far: u64, more: u64, most: u64) -> bool
+    ensures yes { result ≡ true → so_far + more ≤ most }
+    ensures no { result ≡ false → most < so_far + more }
+{
+    so_far <= most && more <= most - so_far
 }

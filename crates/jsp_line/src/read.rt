@@ -39,6 +39,8 @@ pub struct ReadDone<A: Ledger> {
     pub seat: AskSeat<A>,
     pub transcript: Transcript,
     pub ended: Ended,
+    /// Whether the last that was acted was a frame that is too long.
+    pub is_too_long: bool,
     /// Why a call was stopped, where one was.
     pub why: Option<Why>,
 }
@@ -56,6 +58,8 @@ pub(crate) struct Course<'a> {
     requests: &'a AtomicU64,
     /// How many bytes were read since the last act.
     bytes: u64,
+    /// Whether the last that was acted was a frame that is too long.
+    is_too_long: bool,
     /// Why a call was stopped, where one was.
     why: Option<Why>,
 }
@@ -171,6 +175,7 @@ impl<H: InParts, A: Ledger, O: Ledger, G: Gate, C: Clock, T: Wait + time::Clock>
     {
         let before = seat.count();
         let closing = is_closing(&given);
+        course.is_too_long = matches!(given, LineInput::Fault(_, Refusal::TooLong));
         self.gate.before(seat.session(), before.saturating_add(1));
         course.requests.fetch_add(1, Ordering::Relaxed);
         let acted = self.act_in_parts(half, seat, course, given);
@@ -298,6 +303,7 @@ impl<H: InParts, A: Ledger, O: Ledger, G: Gate, C: Clock, T: Wait + time::Clock>
             owner,
             requests,
             bytes: 0,
+            is_too_long: false,
             why: None,
         };
         let ended = self.read_turns(
@@ -314,6 +320,7 @@ impl<H: InParts, A: Ledger, O: Ledger, G: Gate, C: Clock, T: Wait + time::Clock>
             seat,
             transcript,
             ended,
+            is_too_long: course.is_too_long,
             why: course.why,
         };
         (reader, done)

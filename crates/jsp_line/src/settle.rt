@@ -30,7 +30,9 @@ impl<H: InParts, A: Ledger, O: Ledger, G: Gate, C: Clock, T: Wait + time::Clock>
         let mut old = Vec::new(self.alloc);
         for _ in self.rt.forever() {
             self.count_where_wanted();
-            self.floor.tell_of_seal(self.rt);
+            if self.floor.tell_of_seal(self.rt) {
+                self.gate.sealed();
+            }
             // Without memory for it no steps are freed.
             let _ = old.reserve(MOST_OLD);
             let turned = self.floor.settle(self.rt, self.clock.now(), None, &mut old);

@@ -12,8 +12,11 @@ pub(crate) const LISTEN: &str = "listen";
 /// The subcommand that is a client.
 pub(crate) const CLIENT: &str = "client";
 
-/// The id of the one request of a client.
+/// The id of the one request of a client, in words.
 pub(crate) const REQUEST: &str = "REQUEST";
+
+/// The id of the flag by which a search is to find an entry.
+pub(crate) const MUST: &str = "must";
 
 /// The id of the spaces' names.
 pub(crate) const NAMES: &str = "NAME";
@@ -42,8 +45,20 @@ pub(crate) const IDLE: &str = "idle";
 /// The id of the flag that has standard input end the server.
 pub(crate) const UNTIL_INPUT: &str = "until-input";
 
-/// The id of the address at which the status is shown.
+/// The id of the address at which the status is shown, and of the flag that asks for one.
 pub(crate) const STATUS: &str = "status";
+
+/// The id of how the log is written, and what it may say.
+pub(crate) const LOG: &str = "log";
+
+pub(crate) const JSON: &str = "json";
+
+pub(crate) const OFF: &str = "off";
+
+const LOG_FORMATS: &[&str] = &["text", JSON, OFF];
+
+/// The id of the flag that leaves only what is wrong in the log.
+pub(crate) const QUIET: &str = "quiet";
 
 /// The id of the most bytes of an era.
 pub(crate) const ERA_BYTES: &str = "era-bytes";
@@ -139,7 +154,7 @@ fn listen<'a>(alloc: Global) -> Result<Command<'a>, AllocError> {
         .help("Ends in order once standard input has a line or ends")
         .action(ArgAction::SetTrue);
     let status = Arg::new(alloc, STATUS).long(STATUS).value_name("ADDR").help(
-        "Shows its status there to a browser, and as JSON at /status.json [default: nowhere]",
+        "Shows its status there: to a browser, at /status.json, and at /metrics [default: nowhere]",
     );
     let address = Arg::new(alloc, ADDRESS)
         .help(
@@ -151,7 +166,8 @@ fn listen<'a>(alloc: Global) -> Result<Command<'a>, AllocError> {
         .arg(lines)?
         .arg(connections)?
         .arg(idle)?;
-    keeping(alloc, command)?
+    let command = keeping(alloc, command)?;
+    logging(alloc, command)?
         .arg(until_input)?
         .arg(status)?
         .arg(address)?
@@ -189,15 +205,42 @@ fn keeping<'a>(alloc: Global, command: Command<'a>) -> Result<Command<'a>, Alloc
         .arg(backlog_bytes)
 }
 
+/// The command with the options of its log.
+fn logging<'a>(alloc: Global, command: Command<'a>) -> Result<Command<'a>, AllocError> {
+    let log = Arg::new(alloc, LOG)
+        .long(LOG)
+        .value_name("FORMAT")
+        .help("How it says on standard error what happens: text, json or off [default: text]")
+        .value_parser(LOG_FORMATS)
+        .hide_possible_values(true);
+    let quiet = Arg::new(alloc, QUIET)
+        .long(QUIET)
+        .help("Says there only what is wrong")
+        .action(ArgAction::SetTrue);
+    command.arg(log)?.arg(quiet)
+}
+
 fn client<'a>(alloc: Global) -> Result<Command<'a>, AllocError> {
+    let must = Arg::new(alloc, MUST)
+        .long(MUST)
+        .help("Ends with status 1 where a read or a take finds no entry, too")
+        .action(ArgAction::SetTrue);
+    let status = Arg::new(alloc, STATUS)
+        .long(STATUS)
+        .help("Prints the status that is shown at the address, as `jsp listen --status` has it")
+        .action(ArgAction::SetTrue);
     let address = Arg::new(alloc, ADDRESS)
-        .help("The server, as 127.0.0.1:7070")
+        .help("The server, as 127.0.0.1:7070; or `help`, with an operation or without")
         .required(true);
-    let request = Arg::new(alloc, REQUEST).help(
-        "The one request that is made, in place of those on standard input, as 'take a Job'",
-    );
+    let request = Arg::new(alloc, REQUEST)
+        .help("The one request that is made, in place of those on standard input, as: take a Job")
+        .action(ArgAction::Append)
+        .num_args(1..)
+        .trailing_var_arg(true);
     Command::new(alloc, CLIENT)
         .about("Makes the requests on standard input, a line each, and prints what the server says")
+        .arg(must)?
+        .arg(status)?
         .arg(address)?
         .arg(request)
 }

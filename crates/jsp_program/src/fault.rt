@@ -2,7 +2,8 @@
 use crate::spaces::BadName;
 use jsp_serve::RunFault;
 use jsp_shell::ShellFault;
-use std::alloc::AllocError;
+use jsp_status::AskFault;
+use std::alloc::{AllocError, AllocFailed};
 use std::io;
 use std::process::ExitCode;
 use thiserror::Error;
@@ -30,10 +31,14 @@ pub(crate) enum Fault {
     Audit,
     #[error(transparent)]
     Shell(ShellFault),
+    #[error(transparent)]
+    Ask(AskFault),
     #[error("cannot read standard input in a thread")]
     Spawn,
     #[error("cannot show a status in a thread")]
     SpawnShow,
+    #[error("cannot write a log in a thread")]
+    SpawnLog,
     #[error("no descriptor is left for a connection: {0}")]
     NoDescriptor(io::Error),
     #[error("no threads are left for a connection")]
@@ -53,8 +58,10 @@ impl Fault {
             | Fault::Write
             | Fault::Serve
             | Fault::Shell(_)
+            | Fault::Ask(_)
             | Fault::Spawn
             | Fault::SpawnShow
+            | Fault::SpawnLog
             | Fault::NoDescriptor(_)
             | Fault::NoThreads => 1,
         })
@@ -67,6 +74,12 @@ impl From<AllocError> for Fault {
     }
 }
 
+impl<T: Drop> From<AllocFailed<T>> for Fault {
+    fn from(_error: AllocFailed<T>) -> Fault {
+        Fault::NoMemory
+    }
+}
+
 impl From<RunFault> for Fault {
     fn from(fault: RunFault) -> Fault {
         match fault {
@@ -74,6 +87,12 @@ impl From<RunFault> for Fault {
             RunFault::Spawn => Fault::Serve,
             RunFault::Audit => Fault::Audit,
         }
+    }
+}
+
+impl From<AskFault> for Fault {
+    fn from(fault: AskFault) -> Fault {
+        Fault::Ask(fault)
     }
 }
 

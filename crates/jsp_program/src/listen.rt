@@ -2,9 +2,9 @@
 ghost use Rattle.std.specs.Prelude.{◌≤◌};
 
 use crate::arguments::{
-    ADDRESS, BACKLOG, BACKLOG_BYTES, CONNECTIONS, ERA, ERA_BYTES, IDLE, LINES, LONGEST_ERA,
-    MOST_LINES, STATUS, UNTIL_INPUT, USUAL_BACKLOG, USUAL_BACKLOG_BYTES, USUAL_CONNECTIONS,
-    USUAL_ERA, USUAL_ERA_BYTES, VERSION,
+    ADDRESS, BACKLOG, BACKLOG_BYTES, CONNECTIONS, ERA, ERA_BYTES, IDLE, JSON, LINES, LOG,
+    LONGEST_ERA, MOST_LINES, OFF, QUIET, STATUS, UNTIL_INPUT, USUAL_BACKLOG, USUAL_BACKLOG_BYTES,
+    USUAL_CONNECTIONS, USUAL_ERA, USUAL_ERA_BYTES, VERSION,
 };
 use crate::fault::Fault;
 use crate::room::find_room;
@@ -12,7 +12,9 @@ use crate::standard::open_null_device;
 use clap::ArgMatches;
 use jsp_house::Seeds;
 use jsp_model::Config;
-use jsp_serve::{Board, Bounds, Closed, LineReport, Service, Stop, serve, show_status};
+use jsp_serve::{
+    Board, Bounds, Closed, LineReport, LogFormat, ServerLog, Service, Stop, serve, show_status,
+};
 use std::fs::{File, Files};
 use std::io::{self, ErrorKind, Read, Stdin, Write};
 use std::net::{Net, SocketAddr, TcpListener, TcpStream};
@@ -41,6 +43,7 @@ pub(crate) struct Server {
     until_input: bool,
     /// What shows its status, if anything is to.
     window: Option<Window>,
+    log: Arc<ServerLog>,
     ghost within: { (1 ≤ service.bounds.era) × (service.bounds.era ≤ 16777216) },
 }
 
@@ -49,6 +52,19 @@ pub(crate) struct Server {
 pub(crate) struct Window {
     listener: Arc<TcpListener>,
     board: Arc<Board>,
+}
+
+/// What writes a server's log.
+#[derive(Drop)]
+pub(crate) struct Scribe {
+    log: Arc<ServerLog>,
+}
+
+impl Scribe {
+    /// Writes it for as long as the program runs.
+    pub(crate) fn run<R: Eprint + Wait>(self, rt: &R) {
+        self.log.write_on(rt);
+    }
 }
 
 /// How a server is ended in order from outside.
@@ -74,6 +90,10 @@ impl Server {
         let Ok(stop) = Arc::new(rt.alloc(), Stop::new()) else {
             return Err(Fault::NoMemory);
         };
+        let log = ServerLog::new(rt.alloc(), log_format(given), given.get_flag(QUIET));
+        let Ok(log) = Arc::new(rt.alloc(), log) else {
+            return Err(Fault::NoMemory);
+        };
         let seeds = Seeds::random(rt);
         Ok(Server {
             listener,
@@ -83,6 +103,7 @@ impl Server {
             stop,
             until_input: given.get_flag(UNTIL_INPUT),
             window: Window::open(rt, given)?,
+            log,
         })
     }
 
@@ -115,6 +136,15 @@ impl Server {
         }
     }
 
+    /// What writes its log, where it has one.
+    pub(crate) fn scribe(&self) -> Result<Option<Scribe>, Fault> {
+        if !self.log.is_on() {
+            return Ok(None);
+        }
+        let log = Arc::try_clone(&self.log)?;
+        Ok(Some(Scribe { log }))
+    }
+
     /// Says where it listens, and serves. At its end it says on standard error what was compared.
     /// The status is 1 where a line wasn't, for want of memory.
     pub(crate) fn serve<
@@ -128,6 +158,7 @@ impl Server {
             stop,
             until_input: _,
             window,
+            log,
         } = self;
         find_room(rt)?;
         if !has_random_seeds && say_seeds(rt).is_err() {
@@ -146,7 +177,11 @@ impl Server {
             &*stop,
             VERSION,
             board,
+            &*log,
         )?;
+        if log.is_on() {
+            log.finish(rt);
+        }
         if say_compared(rt, &closed).is_err() {
             return Err(Fault::Write);
         }
@@ -174,7 +209,7 @@ impl Window {
         let Ok(listener) = Arc::new(rt.alloc(), listener) else {
             return Err(Fault::NoMemory);
         };
-        let Ok(board) = Arc::new(rt.alloc(), Board::new()) else {
+        let Ok(board) = Arc::new(rt.alloc(), Board::new(rt.alloc())) else {
             return Err(Fault::NoMemory);
         };
         Ok(Some(Window { listener, board }))
@@ -188,7 +223,10 @@ impl Window {
     }
 
     /// Shows the status to all who connect.
-    pub(crate) fn show<R: AllocGlobal + Clock + RandomSource + Wait>(self, rt: &R) {
+    pub(crate) fn show<R: AllocGlobal + Clock + Files<File = File> + RandomSource + Wait>(
+        self,
+        rt: &R,
+    ) {
         show_status(rt, rt.alloc(), &*self.listener, &*self.board);
     }
 }
@@ -217,6 +255,15 @@ impl End {
             }
             thread::sleep(rt, Duration::from_millis(PAUSE));
         }
+    }
+}
+
+/// How its log is to be written, if it is to have one.
+fn log_format(given: &ArgMatches<'_>) -> Option<LogFormat> {
+    match given.get_str(LOG) {
+        Some(OFF) => None,
+        Some(JSON) => Some(LogFormat::Json),
+        _ => Some(LogFormat::Text),
     }
 }
 

@@ -6,7 +6,8 @@
 //! TCP. Both end with status 0, also after help, with 2 where the arguments or the standard streams
 //! can't be used, with 3 where a server's history differs from what its lines read and wrote, and
 //! else with 1 after the first fault met, which is told on standard error. `jsp client ADDR` makes
-//! requests of a server, and ends with 1 where one was refused too.
+//! requests of a server, and ends with 1 where one was refused too; `jsp client --status ADDR` prints
+//! what a server shows.
 #![tactic(auto)]
 
 mod arguments;
@@ -21,10 +22,10 @@ mod standard;
 use arguments::{CLIENT, LISTEN, command};
 use clap::ArgMatches;
 use clap::error::{Error, ErrorKind};
-use client::Shell;
+use client::{Shell, help, status};
 use fault::Fault;
 use jsp_shell::Typing;
-use listen::{End, Server, Window};
+use listen::{End, Scribe, Server, Window};
 use script::Script;
 use spaces::config;
 use standard::open_standard;
@@ -56,11 +57,13 @@ enum Job {
     Client(Shell),
 }
 
-/// What reads standard input, in a thread of its own.
+/// What runs beside a job, in a thread of its own.
 #[derive(Drop)]
-enum Reader {
-    End(End),
-    Typing(Typing),
+enum Aside {
+    End(End, Stdin),
+    Typing(Typing, Stdin),
+    Window(Window),
+    Scribe(Scribe),
 }
 
 fn main(rt: HostRuntime) -> ExitCode {
@@ -70,33 +73,21 @@ fn main(rt: HostRuntime) -> ExitCode {
         faults: rt.stderr(),
     };
     let done = match open_standard(&rt).and_then(|()| read_job(&rt, &streams)) {
-        Ok(job) => match job.beside(&rt) {
-            Ok(Beside { reader, window }) => {
+        Ok(job) => match job.asides(&rt, streams.input) {
+            Ok(asides) => {
+                let mut begun = Ok(());
                 // Nobody waits for these threads: what they are for may end before.
-                let reading = match reader {
-                    None => Ok(()),
-                    Some(reader) => match rt.clone() {
-                        Ok(system) => {
-                            let input = streams.input;
-                            match thread::spawn(&rt, move || reader.read(&system, input)) {
-                                Ok(_) => Ok(()),
-                                Err(_) => Err(Fault::Spawn),
-                            }
-                        }
-                        Err(_) => Err(Fault::NoMemory),
-                    },
-                };
-                let showing = match window {
-                    None => Ok(()),
-                    Some(window) => match rt.clone() {
-                        Ok(system) => match thread::spawn(&rt, move || window.show(&system)) {
+                for aside in asides {
+                    let fault = aside.fault();
+                    begun = begun.and(match rt.clone() {
+                        Ok(system) => match thread::spawn(&rt, move || aside.run(&system)) {
                             Ok(_) => Ok(()),
-                            Err(_) => Err(Fault::SpawnShow),
+                            Err(_) => Err(fault),
                         },
                         Err(_) => Err(Fault::NoMemory),
-                    },
-                };
-                match reading.and(showing) {
+                    });
+                }
+                match begun {
                     Ok(()) => job.run(&rt, streams),
                     Err(fault) => Err(fault),
                 }
@@ -115,43 +106,34 @@ fn main(rt: HostRuntime) -> ExitCode {
     }
 }
 
-/// What runs beside a job, each in a thread of its own.
-#[derive(Drop)]
-struct Beside {
-    reader: Option<Reader>,
-    window: Option<Window>,
-}
-
 impl Job {
-    /// What is to run beside it.
-    fn beside<R: Files<File = File>>(&self, rt: &R) -> Result<Beside, Fault> {
-        Ok(Beside {
-            reader: self.reader(rt)?,
-            window: self.window()?,
-        })
-    }
-
-    /// What is to read standard input meanwhile.
-    fn reader<R: Files<File = File>>(&self, rt: &R) -> Result<Option<Reader>, Fault> {
+    /// What is to run beside it, as what reads standard input meanwhile.
+    fn asides<R: AllocGlobal + Files<File = File>>(
+        &self,
+        rt: &R,
+        input: Stdin,
+    ) -> Result<Vec<Aside>, Fault> {
+        let mut asides = Vec::new(rt.alloc());
         match self {
-            Job::Told(_) | Job::Script(_) => Ok(None),
-            Job::Listen(server) => match server.end(rt)? {
-                Some(end) => Ok(Some(Reader::End(end))),
-                None => Ok(None),
-            },
-            Job::Client(shell) => match shell.typing()? {
-                Some(typing) => Ok(Some(Reader::Typing(typing))),
-                None => Ok(None),
-            },
+            Job::Told(_) | Job::Script(_) => {}
+            Job::Listen(server) => {
+                if let Some(end) = server.end(rt)? {
+                    asides.push(Aside::End(end, input))?;
+                }
+                if let Some(window) = server.window()? {
+                    asides.push(Aside::Window(window))?;
+                }
+                if let Some(scribe) = server.scribe()? {
+                    asides.push(Aside::Scribe(scribe))?;
+                }
+            }
+            Job::Client(shell) => {
+                if let Some(typing) = shell.typing()? {
+                    asides.push(Aside::Typing(typing, input))?;
+                }
+            }
         }
-    }
-
-    /// What is to show its status meanwhile.
-    fn window(&self) -> Result<Option<Window>, Fault> {
-        match self {
-            Job::Listen(server) => server.window(),
-            Job::Told(_) | Job::Script(_) | Job::Client(_) => Ok(None),
-        }
+        Ok(asides)
     }
 
     fn run<R: AllocGlobal + Print + Eprint + Clock + Files<File = File> + Threads + Wait + Sync>(
@@ -168,11 +150,30 @@ impl Job {
     }
 }
 
-impl Reader {
-    fn read<R: Clock + Net<Stream = TcpStream> + Wait>(self, rt: &R, input: Stdin) {
+impl Aside {
+    fn run<
+        R: AllocGlobal
+            + Clock
+            + Eprint
+            + Files<File = File>
+            + Net<Stream = TcpStream>
+            + RandomSource
+            + Wait,
+    >(self, rt: &R) {
         match self {
-            Reader::End(end) => end.come(rt, input),
-            Reader::Typing(typing) => typing.run(rt, input),
+            Aside::End(end, input) => end.come(rt, input),
+            Aside::Typing(typing, input) => typing.run(rt, input),
+            Aside::Window(window) => window.show(rt),
+            Aside::Scribe(scribe) => scribe.run(rt),
+        }
+    }
+
+    /// What is wrong where there is no thread for it.
+    fn fault(&self) -> Fault {
+        match self {
+            Aside::End(..) | Aside::Typing(..) => Fault::Spawn,
+            Aside::Window(_) => Fault::SpawnShow,
+            Aside::Scribe(_) => Fault::SpawnLog,
         }
     }
 }
@@ -196,7 +197,14 @@ fn read_job<
         return Err(Fault::Arguments);
     };
     if kind == CLIENT {
-        return Ok(Job::Client(Shell::connect(rt, given, streams)?));
+        let told = match help(alloc, given, streams)? {
+            Some(told) => Some(told),
+            None => status(rt, given)?,
+        };
+        return match told {
+            Some(status) => Ok(Job::Told(status)),
+            None => Ok(Job::Client(Shell::connect(rt, given, streams)?)),
+        };
     }
     let config = config(alloc, given)?;
     match kind {

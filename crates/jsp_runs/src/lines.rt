@@ -1,6 +1,6 @@
 //! Lines in memory: what each sends and is to be sent, and how its reader and writer fail.
 use crate::watch::{Answer, Watch};
-use jsp_floor::{Door, Hangup, Knock};
+use jsp_floor::{Door, Hangup, Knock, LineEnd};
 use std::alloc::Global;
 use std::io::{self, ErrorKind, Read, Write};
 use std::sync::Wait;
@@ -111,6 +111,10 @@ impl Hangup for Connected {
     fn silent(&self) -> u64 {
         0
     }
+
+    fn opened(&self, _session: u64) {}
+
+    fn ended(&self, _why: LineEnd) {}
 }
 
 impl<'w, 'a, T> Door<Incoming<'w, 'a, T>, Outgoing<'w, 'a, T>, Connected> for Lines<'w, 'a, T> {

@@ -85,6 +85,8 @@ impl<T: time::Clock> Gate for Watch<'_, T> {
 
     fn cut(&self, _session: u64) {}
 
+    fn sealed(&self) {}
+
     fn wants_counts(&self) -> bool {
         false
     }

@@ -2,10 +2,13 @@
 use crate::link::{Connection, Incoming, Outgoing, halves};
 use crate::server::Service;
 use crate::stop::Stop;
+use jsp_board::Traffic;
 use jsp_floor::{Door, Knock};
+use jsp_log::{Notice, ServerLog};
 use std::alloc::Global;
 use std::io::{self, ErrorKind};
 use std::net::TcpListener;
+use std::sync::Wait;
 use std::thread;
 use std::time::{Clock, Duration};
 
@@ -29,6 +32,8 @@ pub(crate) struct Connections<'a, T> {
     left: u64,
     idle: Option<Duration>,
     stop: &'a Stop,
+    traffic: &'a Traffic,
+    log: &'a ServerLog,
 }
 
 impl<'a, T> Connections<'a, T> {
@@ -38,6 +43,8 @@ impl<'a, T> Connections<'a, T> {
         listener: TcpListener,
         service: Service,
         stop: &'a Stop,
+        traffic: &'a Traffic,
+        log: &'a ServerLog,
     ) -> Connections<'a, T> {
         Connections {
             system,
@@ -46,17 +53,21 @@ impl<'a, T> Connections<'a, T> {
             left: service.lines,
             idle: service.idle,
             stop,
+            traffic,
+            log,
         }
     }
 }
 
-impl<T: Clock> Connections<'_, T> {
-    fn pause(&self) {
+impl<T: Clock + Eprint + Wait> Connections<'_, T> {
+    /// Waits until the system may have room for a connection.
+    fn pause(&self, error: i32) {
+        self.log.write(self.system, Notice::Unaccepted { error });
         thread::sleep(self.system, Duration::from_millis(PAUSE));
     }
 }
 
-impl<'a, T: Clock> Door<Incoming<'a, T>, Outgoing<'a, T>, Connection<'a, T>>
+impl<'a, T: Clock + Eprint + Wait> Door<Incoming<'a, T>, Outgoing<'a, T>, Connection<'a, T>>
     for Connections<'a, T> {
     /// Waits for a connection. One that is gone again before it can be served counts as one. Where
     /// the system has no room for one it is asked again after a pause: that is no fault of the
@@ -71,20 +82,25 @@ impl<'a, T: Clock> Door<Incoming<'a, T>, Outgoing<'a, T>, Connection<'a, T>>
                 return Knock::Closed;
             }
             match accepted {
-                Ok((stream, _)) => {
+                Ok((stream, address)) => {
                     self.left -= 1;
                     if let Some((incoming, outgoing, whole)) = halves(
                         self.system,
                         self.alloc,
                         stream,
+                        address,
                         self.idle,
+                        self.traffic,
+                        self.log,
                     ) {
                         return Knock::Line(incoming, outgoing, whole);
                     }
                 }
                 Err(error) if is_gone(&error) => {}
-                Err(error) if has_no_room(&error) => self.pause(),
-                Err(_) => return Knock::Failed,
+                Err(error) => match no_room(&error) {
+                    Some(code) => self.pause(code),
+                    None => return Knock::Failed,
+                },
             }
         }
         Knock::Closed
@@ -103,9 +119,7 @@ fn is_gone(error: &io::Error) -> bool {
     ) || error.raw_os_error() == Some(BROKEN)
 }
 
-fn has_no_room(error: &io::Error) -> bool {
-    match error.raw_os_error() {
-        Some(code) => NO_ROOM.contains(&code),
-        None => false,
-    }
+/// The number of an error that says that the system has no room for a connection.
+fn no_room(error: &io::Error) -> Option<i32> {
+    error.raw_os_error().filter(|code| NO_ROOM.contains(code))
 }

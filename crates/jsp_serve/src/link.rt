@@ -2,14 +2,17 @@
 ghost use Rattle.std.specs.Prelude.{◌≤◌, length, IfOk};
 ghost use Rattle.std.specs.Io.{ReadsAtMost};
 
+use crate::frames::Frames;
 use crate::idle::Idle;
-use jsp_floor::Hangup;
+use jsp_board::{Figures, Traffic};
+use jsp_floor::{Hangup, LineEnd};
+use jsp_log::{Cause, Notice, ServerLog};
 use std::alloc::Global;
 use std::io::{self, ErrorKind, Read, Write};
-use std::net::{Shutdown, TcpStream};
-use std::sync::Arc;
+use std::net::{Shutdown, SocketAddr, TcpStream};
 use std::sync::atomic::AtomicU64;
-use std::time::{Clock, Duration};
+use std::sync::{Arc, Wait};
+use std::time::{Clock, Duration, Instant};
 
 /// How often a read or a write that was interrupted is made again. Nothing interrupts one so often;
 /// the bound is there so that each of the two loops below ends by itself: the call behind it is the
@@ -24,16 +27,17 @@ const SHORTEST: u64 = 1;
 struct Link<'a, T> {
     system: &'a T,
     stream: TcpStream,
-    /// How many whole requests it made.
-    requests: AtomicU64,
-    /// How long it has made none.
+    traffic: &'a Traffic,
+    log: &'a ServerLog,
+    figures: Arc<Figures>,
+    /// How long it has made no request.
     idle: Idle,
 }
 
 impl<T: Clock> Link<'_, T> {
     /// How long the next call may take, where that is bounded: zero where no time is left.
     fn time_left(&self) -> io::Result<Option<Duration>> {
-        self.idle.left(self.system, &self.requests)
+        self.idle.left(self.system, &self.figures.requests)
     }
 }
 
@@ -44,14 +48,20 @@ pub(crate) fn halves<'a, T: Clock>(
     system: &'a T,
     alloc: Global,
     stream: TcpStream,
+    address: SocketAddr,
     idle: Option<Duration>,
+    traffic: &'a Traffic,
+    log: &'a ServerLog,
 ) -> Option<(Incoming<'a, T>, Outgoing<'a, T>, Connection<'a, T>)> {
     stream.set_nodelay(true).ok()?;
     let idle = Idle::new(system, idle).ok()?;
+    let figures = Figures::new(address, Instant::now(system).ok()?);
     let link = Link {
         system,
         stream,
-        requests: AtomicU64::new(0),
+        traffic,
+        log,
+        figures: Arc::new(alloc, figures).ok()?,
         idle,
     };
     let link = Arc::new(alloc, link).ok()?;
@@ -63,6 +73,7 @@ pub(crate) fn halves<'a, T: Clock>(
     let outgoing = Outgoing {
         link: Arc::try_clone(&link).ok()?,
         bound: None,
+        frames: Frames::new(),
     };
     Some((incoming, outgoing, Connection(link)))
 }
@@ -130,6 +141,8 @@ pub(crate) struct Outgoing<'a, T> {
     link: Arc<Link<'a, T>>,
     /// How long a write may take as the system knows it.
     bound: Option<Duration>,
+    /// How far the frames are written.
+    frames: Frames,
 }
 
 impl<T: Clock> Outgoing<'_, T> {
@@ -163,8 +176,15 @@ impl<T: Clock> Outgoing<'_, T> {
 impl<T: Clock> Write for Outgoing<'_, T> {
     fn write(&mut self, bytes: &[u8]) -> io::Result<usize> {
         let written = self.write_some(bytes);
-        if !matches!(written, Ok(1..)) && !bytes.is_empty() {
-            let _ = self.link.stream.shutdown(Shutdown::Both);
+        match written {
+            Ok(count @ 1..) => {
+                let answers = self.frames.count_answers(&bytes[..count]);
+                self.link.figures.add_answers(answers);
+            }
+            _ if bytes.is_empty() => {}
+            _ => {
+                let _ = self.link.stream.shutdown(Shutdown::Both);
+            }
         }
         written
     }
@@ -178,17 +198,64 @@ impl<T: Clock> Write for Outgoing<'_, T> {
 #[derive(Drop)]
 pub(crate) struct Connection<'a, T>(Arc<Link<'a, T>>);
 
-impl<T: Clock> Hangup for Connection<'_, T> {
+impl<T: Clock> Connection<'_, T> {
+    /// Why it ended, of which the line knows only that it couldn't be read or written.
+    fn cause(&self, why: LineEnd) -> Cause {
+        let is_broken = matches!(why, LineEnd::Unreadable | LineEnd::Unwritable);
+        if is_broken && matches!(self.0.time_left(), Ok(Some(Duration::ZERO))) {
+            return Cause::Idle;
+        }
+        Cause::Line(why)
+    }
+}
+
+impl<T: Clock + Eprint + Wait> Hangup for Connection<'_, T> {
     fn hang_up(&self) {
         // Its client may have ended it before.
         let _ = self.0.stream.shutdown(Shutdown::Both);
     }
 
     fn requests(&self) -> &AtomicU64 {
-        &self.0.requests
+        &self.0.figures.requests
     }
 
     fn silent(&self) -> u64 {
-        self.0.idle.silent(self.0.system, &self.0.requests)
+        self.0.idle.silent(self.0.system, &self.0.figures.requests)
+    }
+
+    fn opened(&self, session: u64) {
+        let figures = &self.0.figures;
+        figures.set_session(session);
+        self.0.traffic.open(self.0.system, figures);
+        self.0.log.write(
+            self.0.system,
+            Notice::Opened {
+                connection: session,
+                address: figures.address,
+            },
+        );
+    }
+
+    fn ended(&self, why: LineEnd) {
+        let figures = &self.0.figures;
+        let address = figures.address;
+        let why = self.cause(why);
+        let connection = figures.session();
+        if connection == 0 {
+            self.0
+                .log
+                .write(self.0.system, Notice::Refused { address, why });
+            return;
+        }
+        self.0.traffic.end(self.0.system, connection);
+        self.0.log.write(
+            self.0.system,
+            Notice::Ended {
+                connection,
+                address,
+                requests: figures.requests(),
+                why,
+            },
+        );
     }
 }

@@ -3,98 +3,55 @@ ghost use Rattle.std.specs.Prelude.{◌≤◌, IfOk};
 ghost use Rattle.jsp_closing.specs.Closing.{Closes};
 ghost use Rattle.jsp_floor.specs.Doors.{AreServed};
 
-use crate::board::Board;
 use crate::connections::Connections;
 use crate::stop::Stop;
+use jsp_board::{Board, Origin, Traffic};
 use jsp_floor::{Bounds, Clock, Closed, Counts, Gate, RunFault, run_house};
 use jsp_house::{Hall, Seeds};
+use jsp_log::{Notice, ServerLog};
 use jsp_model::Config;
-use jsp_status::{RefusalCount, SpaceStatus, Status};
-use std::alloc::{AllocError, Global};
+use std::alloc::Global;
 use std::net::TcpListener;
 use std::sync::Wait;
 use std::thread::Threads;
 use std::time::{Clock as SystemClock, Duration, Instant};
 
-/// Holds nobody, and puts what was counted on the board, if there is one.
+/// Holds nobody, puts what was counted on the board, if there is one, and has in the log that an era
+/// was sealed.
 #[derive(Drop)]
 struct Open<'a, T> {
     system: &'a T,
     alloc: Global,
-    version: &'a str,
-    config: &'a Config,
+    origin: Origin<'a>,
     clock: &'a Uptime<'a, T>,
     board: Option<&'a Board>,
+    log: &'a ServerLog,
 }
 
-impl<T: Wait + SystemClock> Gate for Open<'_, T> {
+impl<T: Wait + SystemClock + Eprint> Gate for Open<'_, T> {
     fn before(&self, _session: u64, _nth: u64) {}
 
     fn written(&self, _session: u64, _nth: u64) {}
 
     fn cut(&self, _session: u64) {}
 
+    fn sealed(&self) {
+        self.log.write(self.system, Notice::Sealed);
+    }
+
     fn wants_counts(&self) -> bool {
         match self.board {
-            Some(board) => board.is_wanted(),
+            Some(board) => board.wants_counts(self.clock.now()),
             None => false,
         }
     }
 
     fn counted(&self, counts: Counts) {
         if let Some(board) = self.board {
-            let status = status_of(
-                self.alloc,
-                self.version,
-                self.config,
-                self.clock.now(),
-                &counts,
-            );
-            board.put(self.system, status.ok());
+            let time = self.clock.now();
+            board.note(self.system, self.alloc, &self.origin, time, &counts);
         }
     }
-}
-
-/// The status that counts make, which were taken at this time.
-fn status_of(
-    alloc: Global,
-    version: &str,
-    config: &Config,
-    time: u64,
-    counts: &Counts,
-) -> Result<Status, AllocError> {
-    let mut refusals = Vec::new(alloc);
-    for (number, count) in counts.refusals.iter().enumerate() {
-        if *count > 0 {
-            refusals.push(RefusalCount {
-                number: number as u64,
-                count: *count,
-            })?;
-        }
-    }
-    let mut spaces = Vec::new(alloc);
-    for (name, space) in config.spaces().iter().zip(counts.spaces.as_slice()) {
-        spaces.push(SpaceStatus {
-            name: String::from_str(alloc, name.as_str())?,
-            rows: space.rows,
-            waiting: space.waiting,
-            registrations: space.registrations,
-            match_sets: space.match_sets,
-        })?;
-    }
-    Ok(Status {
-        version: String::from_str(alloc, version)?,
-        uptime_ms: time,
-        era: counts.seals.saturating_add(1),
-        seals: counts.seals,
-        connections: counts.lines,
-        requests: counts.requests,
-        answers: counts.answers,
-        refusals,
-        living: counts.transactions.living,
-        voting: counts.transactions.voting,
-        spaces,
-    })
 }
 
 /// Milliseconds since the server began, or 0 where they can't be read.
@@ -131,12 +88,13 @@ pub struct Service {
 
 /// Serves the connections of the listener over the spaces of `config`, and ends when there were as
 /// many as `service` says and all have ended, or in order once it is asked to `stop`. Meanwhile it
-/// puts its status on the board where that is asked for.
+/// notes every few seconds on the board what it does, puts its status there where that is asked for,
+/// and has in its log which connections it serves, and why they end.
 ///
 /// Each whole line of the answer is a connection's: what it read is what was asked by it and
 /// counted, what it wrote are the frames of the answers that it took, and a failure is told where a
 /// call of its socket failed. Of what a socket gives or takes nothing is known.
-pub fn serve<T: Threads + Wait + SystemClock + Sync>(
+pub fn serve<T: Threads + Wait + SystemClock + Eprint + Sync>(
     rt: &T,
     alloc: Global,
     listener: TcpListener,
@@ -145,6 +103,7 @@ pub fn serve<T: Threads + Wait + SystemClock + Sync>(
     stop: &Stop,
     version: &str,
     board: Option<&Board>,
+    log: &ServerLog,
 ) -> Result<Closed, RunFault>
     requires { (1 ≤ service.bounds.era) × (service.bounds.era ≤ 16777216) }
     ensures closes { IfOk result (Closes config.now) }
@@ -157,14 +116,20 @@ pub fn serve<T: Threads + Wait + SystemClock + Sync>(
         system: rt,
         start: Instant::now(rt).ok(),
     };
-    let connections = Connections::new(rt, alloc, listener, service, stop);
+    let traffic = Traffic::new(alloc, service.bounds.lines as u64);
+    let connections = Connections::new(rt, alloc, listener, service, stop, &traffic, log);
+    let origin = Origin {
+        version,
+        config,
+        traffic: &traffic,
+    };
     let gate = Open {
         system: rt,
         alloc,
-        version,
-        config,
+        origin,
         clock: &clock,
         board,
+        log,
     };
     run_house(
         rt,

@@ -11,9 +11,10 @@ use Rattle.http_server.specs.Response.{fields_of}
 use Rattle.http_server.specs.declared.state.Config.{Config}
 use Rattle.http_server.specs.History.{History, IsServed}
 use Rattle.jsp_status.specs.declared.asked.Asked.{Asked}
-use Rattle.jsp_status.specs.declared.asked.Asked.TheVariants.{Page, Json, UnknownPath, UnknownMethod}
+use Rattle.jsp_status.specs.declared.asked.Asked.TheVariants.{Page, Json, Metrics, UnknownPath, UnknownMethod}
 use Rattle.jsp_status.specs.declared.status.Status.{Status}
 use Rattle.jsp_status.specs.Data.{status_data}
+use Rattle.jsp_status.specs.Metrics.{metrics_of}
 use Rattle.jsp_status.specs.Page.{page_of}
 
 -- what a method and a path ask for
@@ -21,18 +22,21 @@ abbrev pub asked_of : List ℕ → List ℕ → Asked
 asked_of method path =
     if bytes_eq method (codes "GET") || bytes_eq method (codes "HEAD") then (
     if bytes_eq path (codes "/") then Page else (
-    if bytes_eq path (codes "/status.json") then Json else UnknownPath))
+    if bytes_eq path (codes "/status.json") then Json else (
+    if bytes_eq path (codes "/metrics") then Metrics else UnknownPath)))
     else UnknownMethod
 
 abbrev pub code_of : Asked → ℕ
 code_of Page = 200
 code_of Json = 200
+code_of Metrics = 200
 code_of UnknownPath = 404
 code_of UnknownMethod = 405
 
 abbrev pub body_for : Status → Asked → List ℕ
 body_for status Page = page_of status
 body_for status Json = compact_text (status_data status)
+body_for status Metrics = metrics_of status
 body_for status UnknownPath = []
 body_for status UnknownMethod = []
 
@@ -46,6 +50,7 @@ describing kind = closing ∷ (codes "content-type", kind) ∷ (codes "cache-con
 abbrev pub headers_for : Asked → List Header
 headers_for Page = describing (codes "text/html; charset=utf-8")
 headers_for Json = describing (codes "application/json")
+headers_for Metrics = describing (codes "text/plain; version=0.0.4; charset=utf-8")
 headers_for UnknownPath = closing ∷ []
 headers_for UnknownMethod = closing ∷ (codes "allow", codes "GET, HEAD") ∷ []
 

@@ -1,6 +1,12 @@
 pub mod Data
 pub mod Escape
+pub mod Label
+pub mod Decimal
+pub mod Chart
 pub mod Table
 pub mod Page
+pub mod Metric
+pub mod Sample
+pub mod Metrics
 pub mod Answer
 pub mod Tags

@@ -5,6 +5,7 @@ ghost use Rattle.jsp_status.specs.Answer.{IsAnswer};
 
 use crate::asked::{Asked, read_asked};
 use crate::json::to_json;
+use crate::metrics::to_metrics;
 use crate::page::to_page;
 use crate::status::Status;
 use bytes::{BufMut, Bytes};
@@ -39,6 +40,12 @@ impl Service for Pages<'_> {
                 let json = to_json(self.alloc, self.status)?;
                 let kind = HeaderValue::from_static("application/json");
                 fill(response, kind, json.as_bytes())?;
+                Ok(())
+            }
+            Asked::Metrics => {
+                let metrics = to_metrics(self.alloc, self.status)?;
+                let kind = HeaderValue::from_static("text/plain; version=0.0.4; charset=utf-8");
+                fill(response, kind, &metrics)?;
                 Ok(())
             }
             Asked::UnknownPath => {

@@ -9,6 +9,7 @@ use http::Request;
 pub(crate) enum Asked {
     Page,
     Json,
+    Metrics,
     UnknownPath,
     UnknownMethod,
 }
@@ -24,6 +25,8 @@ pub(crate) fn read_asked(request: &Request<Bytes>) -> Asked
         Asked::Page
     } else if path == "/status.json" {
         Asked::Json
+    } else if path == "/metrics" {
+        Asked::Metrics
     } else {
         Asked::UnknownPath
     }

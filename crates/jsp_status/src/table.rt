@@ -1,7 +1,8 @@
 //! The rows of a table.
 ghost use Rattle.std.specs.Prelude.{◌≡◌, ◌++◌, OnOk};
-ghost use Rattle.jsp_status.specs.Table.{cell_text, content_of, row_of};
+ghost use Rattle.jsp_status.specs.Table.{cell_text, content_of, known_text, row_of};
 
+use crate::decimal::{push_decimal, push_tenths};
 use crate::escape::push_escaped;
 use std::alloc::{AllocError, Global};
 
@@ -10,6 +11,10 @@ use std::alloc::{AllocError, Global};
 pub(crate) enum Cell<'a> {
     Text(&'a str),
     Number(u64),
+    /// A number where it is known, and else nothing.
+    Known(Option<u64>),
+    /// A number of tenths.
+    Tenths(u64),
 }
 
 /// Appends a row.
@@ -32,12 +37,26 @@ fn push_cell(alloc: Global, page: &mut Vec<u8>, cell: &Cell<'_>) -> Result<(), A
     ensures { OnOk result (page.new.items ≡ page.old.items ++ cell_text (content_of cell.now)) }
 {
     page.extend_from_slice(b"<td>")?;
-    match cell {
-        Cell::Text(text) => push_escaped(page, text)?,
-        Cell::Number(number) => {
-            let digits = number.to_string(alloc)?;
-            page.extend_from_slice(digits.as_bytes())?;
-        }
-    }
+    push_content(alloc, page, cell)?;
     page.extend_from_slice(b"</td>")
+}
+
+fn push_content(alloc: Global, page: &mut Vec<u8>, cell: &Cell<'_>) -> Result<(), AllocError>
+    ensures { OnOk result (page.new.items ≡ page.old.items ++ content_of cell.now) }
+{
+    match cell {
+        Cell::Text(text) => push_escaped(page, text),
+        Cell::Number(number) => push_decimal(alloc, page, *number),
+        Cell::Known(number) => push_known(alloc, page, *number),
+        Cell::Tenths(number) => push_tenths(alloc, page, *number),
+    }
+}
+
+fn push_known(alloc: Global, page: &mut Vec<u8>, number: Option<u64>) -> Result<(), AllocError>
+    ensures { OnOk result (page.new.items ≡ page.old.items ++ known_text number) }
+{
+    match number {
+        Some(number) => push_decimal(alloc, page, number),
+        None => Ok(()),
+    }
 }
