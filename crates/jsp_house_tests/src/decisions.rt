@@ -3,7 +3,8 @@
 //! next.
 //!
 //! Whoever owns a hall or steps drops them wherever it may fail, and each of these drops is proved.
-//! So one test owns them, and all else borrows them and holds for any house.
+//! So a test drops them before it looks at anything, and all else borrows them and holds for any
+//! house.
 use crate::spaces::{asked, not_stopped, two_spaces};
 use jsp_beside::InParts;
 use jsp_house::Hall;
@@ -160,10 +161,26 @@ fn a_space_applies_what_was_decided_before_it_is_touched(rt: HostRuntime) -> Res
     let alloc = rt.alloc();
     let mut hall = Hall::new(alloc, &two_spaces(alloc)?, 7)?;
     let mut log = Vec::new(alloc);
-    let (read, settled) = play(alloc, &mut hall, &mut log)?;
+    let played = play(alloc, &mut hall, &mut log);
+    drop(hall);
+    drop(log);
+    let (read, settled) = played?;
     assert_eq!(rt; read, [(0, 0), (1, 1), (1, 0), (0, 0)]);
     assert_eq!(rt; settled, [(1, 0), (0, 0)]);
     Ok(())
+}
+
+/// What is pending once a space of 300 entries is reset, how many parts it takes until all is
+/// applied, and what is pending then.
+fn reset_in_parts<H: Counted + InParts>(
+    alloc: Global,
+    house: &mut H,
+    log: &mut Vec<Step>,
+) -> Result<(Pending, u32, Pending), Fail> {
+    begin(alloc, house, log)?;
+    let reset = write_and_reset(alloc, house, 300, log)?;
+    let parts = parts_left(house, 9);
+    Ok((reset, parts, house.counts()))
 }
 
 /// A part lets 128 rows go at most.
@@ -172,10 +189,9 @@ fn entries_of_a_space_that_was_reset_go_in_parts(rt: HostRuntime) -> Result<(), 
     let alloc = rt.alloc();
     let mut hall = Hall::new(alloc, &two_spaces(alloc)?, 7)?;
     let mut log = Vec::new(alloc);
-    begin(alloc, &mut hall, &mut log)?;
-    let reset = write_and_reset(alloc, &mut hall, 300, &mut log)?;
-    assert_eq!(rt; reset, (1, 0));
-    assert_eq!(rt; parts_left(&mut hall, 9), 2);
-    assert_eq!(rt; hall.counts(), (0, 0));
+    let reset = reset_in_parts(alloc, &mut hall, &mut log);
+    drop(hall);
+    drop(log);
+    assert_eq!(rt; reset?, ((1, 0), 2, (0, 0)));
     Ok(())
 }
