@@ -2,7 +2,7 @@
 # Runs the program with these arguments, this input and its own status. Where there is no program, or
 # it was built from other sources, it is built first: every crate that it stands on is proved on the
 # way. With --unproved before the arguments of a script it is compiled and run at once, with checks in
-# place of proofs.
+# place of proofs. `package` makes packages of it, in the folder that is named behind it, or in package/.
 set -euo pipefail
 here=$(cd "$(dirname "${BASH_SOURCE[0]}")" && pwd)
 folder=$here/crates/jsp_program
@@ -43,7 +43,7 @@ build() {
 
 # What the compiler itself says of a run that came to its end is left out.
 run_unproved() {
-    echo "jsp: nothing is proved of this run: the program is compiled with checks, which takes a minute" >&2
+    echo "jsp: nothing is proved of this run: the program is compiled with checks, which takes two or three minutes" >&2
     local said status=0
     said=$(mktemp)
     (cd "$folder" && rt try -- "$@") 2>"$said" || status=$?
@@ -65,5 +65,12 @@ if [ "${1:-}" = --unproved ]; then
     fi
     run_unproved "$@"
 fi
+if [ "${1:-}" = package ] && [ $# -gt 2 ]; then
+    echo 'jsp: package takes one folder, or none for package/' >&2
+    exit 2
+fi
 if is_old; then build; fi
+if [ "${1:-}" = package ]; then
+    exec python3 -B "$here/packaging/make.py" "$program" "${2:-$here/package}"
+fi
 exec "$program" "$@"

@@ -11,6 +11,7 @@ import java.util.HashMap;
 import java.util.LinkedHashMap;
 import java.util.List;
 import java.util.Map;
+import java.util.Set;
 import java.util.concurrent.Callable;
 import java.util.concurrent.ExecutorService;
 import java.util.concurrent.Executors;
@@ -44,6 +45,8 @@ public class JavaClient {
         CASES.put("texts_come_back", new Case(1, JavaClient::textsComeBack));
         CASES.put("json_is_read", new Case(1, JavaClient::jsonIsRead));
         CASES.put("leases_last_as_granted", new Case(1, JavaClient::leasesLastAsGranted));
+        CASES.put("leases_are_renewed_together", new Case(2, JavaClient::leasesAreRenewedTogether));
+        CASES.put("leases_are_cancelled_together", new Case(1, JavaClient::leasesAreCancelledTogether));
         CASES.put("operations_give_what_they_say", new Case(1, JavaClient::operationsGiveWhatTheySay));
         CASES.put("transactions_are_whole", new Case(2, JavaClient::transactionsAreWhole));
         CASES.put("a_lost_transaction_gives_back", new Case(2, JavaClient::aLostTransactionGivesBack));
@@ -203,6 +206,88 @@ public class JavaClient {
             kept.cancel();
             isSame(a.read(job(4), null, 0), null);
         }
+    }
+
+    private static Jsp.LeaseMap leaseMap(Jsp jsp, List<Jsp.Lease> leases, long ms) {
+        Jsp.LeaseMap map = jsp.leaseMap();
+        leases.forEach(lease -> map.put(lease, ms));
+        return map;
+    }
+
+    private static Map<Jsp.Lease, Jsp.Refusal> refusals(Jsp.LeaseMapException failure) {
+        Map<Jsp.Lease, Jsp.Refusal> refusals = new HashMap<>();
+        failure.exceptionMap().forEach((lease, refused) -> refusals.put(lease, refused.refusal()));
+        return refusals;
+    }
+
+    /** Each for its own time, a transaction's too. One that is refused leaves the map, and the others renewed. */
+    private static void leasesAreRenewedTogether(String address) throws Exception {
+        try (Jsp jsp = withJobs(address);
+                Jsp other = Jsp.connect(address)) {
+            Jsp.Space a = jsp.space("a");
+            List<Jsp.Lease> leases = a.write(jobs(4), null, LONG);
+            Jsp.Lease brief = leases.get(0);
+            Jsp.Lease wrong = leases.get(2);
+            Jsp.Lease gone = leases.get(3);
+            gone.cancel();
+            Jsp.LeaseMap map = leaseMap(jsp, leases, Jsp.ANY);
+            map.put(brief, 50L);
+            map.put(wrong, -2L);
+            Jsp.Transaction txn = jsp.transaction(LONG);
+            map.put(txn.lease(), Jsp.FOREVER);
+
+            Jsp.LeaseMapException failure = fails(Jsp.LeaseMapException.class, map::renewAll);
+            isSame(refusals(failure), Map.of(wrong, Jsp.Refusal.BAD_LEASE, gone, Jsp.Refusal.UNKNOWN_LEASE));
+            isSame(map.keySet(), Set.of(brief, leases.get(1), txn.lease()));
+            isSame(failure.renewed().values().stream().map(Jsp.Lease::ms).toList(), List.of(50L, 60_000L, Jsp.LONGEST));
+            isSame(failure.renewed().get(brief).number(), brief.number());
+            Thread.sleep(200);
+            isSame(a.read(job(1), null, 0), null);
+            isSame(a.read(job(2), null, 0), job(2));
+            isSame(a.read(job(3), null, 0), job(3)); // a refused renewal leaves the lease as it was
+
+            isSame(map.remove(brief), 50L);
+            isSame(map.renewAll().keySet(), Set.of(leases.get(1), txn.lease()));
+            txn.abort();
+            isSame(jsp.leaseMap().renewAll(), Map.of());
+            Jsp.Lease foreign = other.space("a").write(job(5), null, LONG);
+            check(map.canContainKey(brief) && !map.canContainKey(foreign) && !map.canContainKey("lease"), map);
+            fails(IllegalArgumentException.class, () -> map.put(foreign, LONG));
+        }
+    }
+
+    /** As many as a request has, and some that are gone already. Of more than that nothing is done. */
+    private static void leasesAreCancelledTogether(String address) throws Exception {
+        try (Jsp jsp = withJobs(address)) {
+            Jsp.Space a = jsp.space("a");
+            List<Jsp.Lease> leases = a.write(jobs(64), null, LONG);
+            Jsp.Lease last = a.write(job(65), null, LONG);
+            Jsp.LeaseMap map = leaseMap(jsp, leases, LONG);
+            map.put(last, LONG);
+            fails(IllegalArgumentException.class, map::renewAll);
+            fails(IllegalArgumentException.class, () -> cancelAll(map));
+            isSame(a.take(List.of(job(1), job(64)), null, 0, 16), List.of(job(1), job(64)));
+
+            map.remove(last);
+            Jsp.LeaseMapException failure = fails(Jsp.LeaseMapException.class, () -> cancelAll(map));
+            isSame(refusals(failure), Map.of(
+                    leases.get(0), Jsp.Refusal.UNKNOWN_LEASE, leases.get(63), Jsp.Refusal.UNKNOWN_LEASE));
+            isSame(failure.renewed(), Map.of());
+            isSame(map.keySet(), Set.copyOf(leases.subList(1, 63)));
+            isSame(a.take((Jsp.Entry) null, null, 0), job(65));
+            isSame(a.read(null, null, 0), null);
+            isSame(refusals(fails(Jsp.LeaseMapException.class, map::renewAll)).size(), 62);
+            check(map.isEmpty(), map);
+            cancelAll(map); // of none, which asks nothing
+
+            leaseMap(jsp, a.write(jobs(64), null, LONG), LONG).cancelAll();
+            isSame(a.read(null, null, 0), null);
+        }
+    }
+
+    private static Void cancelAll(Jsp.LeaseMap map) throws Exception {
+        map.cancelAll();
+        return null;
     }
 
     /** Of those that no other case or example has. */

@@ -9,16 +9,19 @@ import java.nio.ByteBuffer;
 import java.nio.CharBuffer;
 import java.nio.charset.CharacterCodingException;
 import java.nio.charset.StandardCharsets;
+import java.util.AbstractMap;
 import java.util.ArrayDeque;
 import java.util.ArrayList;
 import java.util.Arrays;
 import java.util.Collections;
 import java.util.Deque;
+import java.util.Iterator;
 import java.util.LinkedHashMap;
 import java.util.List;
 import java.util.Locale;
 import java.util.Map;
 import java.util.Objects;
+import java.util.Set;
 import java.util.concurrent.BlockingQueue;
 import java.util.concurrent.CompletableFuture;
 import java.util.concurrent.ConcurrentHashMap;
@@ -82,6 +85,9 @@ public final class Jsp implements AutoCloseable {
     private static final int LONGEST_FRAME = 1_048_576;
 
     private static final int CONNECT_MILLISECONDS = 10_000;
+
+    /** The most leases that a {@link LeaseMap} can renew or cancel, since a request has no more. */
+    public static final int MOST_LEASES = 64;
 
     /** How many entries a match set asks for at a time, which is the most that a page has. */
     private static final int PAGE = 16;
@@ -175,6 +181,11 @@ public final class Jsp implements AutoCloseable {
     /** Begins a transaction. When its lease ends it is aborted, so that it has to last for the waits and the work. */
     public Transaction transaction(long lease) throws IOException, InterruptedException {
         return new Transaction(new Request("txn").with("lease", lease).granted());
+    }
+
+    /** A map without leases, to which they are put to be renewed or cancelled together. */
+    public LeaseMap leaseMap() {
+        return new LeaseMap();
     }
 
     /**
@@ -359,6 +370,95 @@ public final class Jsp implements AutoCloseable {
         /** Ends it now: removes its entry, registration or match set, or aborts its transaction. */
         public void cancel() throws IOException, InterruptedException {
             new Request("cancel").with("lease", number).call();
+        }
+
+        private Jsp connection() {
+            return Jsp.this;
+        }
+
+        private Json named() {
+            return new Json.Whole(number);
+        }
+    }
+
+    /**
+     * Leases of this connection, each with the milliseconds that are asked for it. They are renewed or cancelled by one
+     * request, in one step and in the map's order. It is for one thread.
+     *
+     * <p>Where the server refuses some of them, the others are renewed or cancelled all the same. LeaseMapException
+     * then tells each refusal, and those leases are removed from the map, so that it can be used again as it is.
+     *
+     * <p>A request has at most {@link #MOST_LEASES}. Where there are more IllegalArgumentException is thrown, and
+     * nothing is sent. A map without leases asks nothing. Where IOException is thrown all of it may be done, or nothing.
+     */
+    public final class LeaseMap extends AbstractMap<Lease, Long> {
+        private final Map<Lease, Long> asked = new LinkedHashMap<>();
+
+        private LeaseMap() {}
+
+        /** Whether a key is a lease of this connection. To put another one throws IllegalArgumentException. */
+        public boolean canContainKey(Object key) {
+            return key instanceof Lease lease && lease.connection() == Jsp.this;
+        }
+
+        @Override
+        public Long put(Lease lease, Long ms) {
+            if (!canContainKey(lease)) {
+                throw new IllegalArgumentException("no lease of this connection");
+            }
+            return asked.put(lease, Objects.requireNonNull(ms));
+        }
+
+        @Override
+        public Set<Map.Entry<Lease, Long>> entrySet() {
+            return asked.entrySet();
+        }
+
+        /** Asks for each lease that it last for its milliseconds from now, and answers what is granted to each. */
+        public Map<Lease, Lease> renewAll() throws LeaseMapException, IOException, InterruptedException {
+            List<Json> pairs = new ArrayList<>();
+            asked.forEach((lease, ms) -> pairs.add(new Json.Items(List.of(lease.named(), new Json.Whole(ms)))));
+            Map<Lease, Lease> renewed = new LinkedHashMap<>();
+            Map<Lease, Refused> refusals = new LinkedHashMap<>();
+            Iterator<Json> items = request("renew_all", pairs).iterator();
+            for (Lease lease : asked.keySet()) {
+                Json item = items.next();
+                if (item.has("fault")) {
+                    refusals.put(lease, Refused.of(item.at("fault").whole()));
+                } else {
+                    renewed.put(lease, new Lease(lease.number, item.at("ms").whole()));
+                }
+            }
+            removeRefused(refusals, renewed);
+            return renewed;
+        }
+
+        /** Ends each lease now. Those that are ended stay in the map. */
+        public void cancelAll() throws LeaseMapException, IOException, InterruptedException {
+            Map<Lease, Refused> refusals = new LinkedHashMap<>();
+            Iterator<Json> items =
+                    request("cancel_all", asked.keySet().stream().map(Lease::named).toList()).iterator();
+            for (Lease lease : asked.keySet()) {
+                Json item = items.next();
+                if (item.has("fault")) {
+                    refusals.put(lease, Refused.of(item.at("fault").whole()));
+                }
+            }
+            removeRefused(refusals, Map.of());
+        }
+
+        private List<Json> request(String op, List<Json> leases) throws IOException, InterruptedException {
+            if (leases.size() > MOST_LEASES) {
+                throw new IllegalArgumentException(leases.size() + " leases, where " + MOST_LEASES + " are the most");
+            }
+            return leases.isEmpty() ? List.of() : new Request(op).with("leases", new Json.Items(leases)).call().items();
+        }
+
+        private void removeRefused(Map<Lease, Refused> refusals, Map<Lease, Lease> renewed) throws LeaseMapException {
+            if (!refusals.isEmpty()) {
+                asked.keySet().removeAll(refusals.keySet());
+                throw new LeaseMapException(refusals, renewed);
+            }
         }
     }
 
@@ -568,6 +668,30 @@ public final class Jsp implements AutoCloseable {
 
         private TransactionLost(long number) {
             super(number);
+        }
+    }
+
+    /** The server refused some leases of a {@link LeaseMap}. What it was asked for the others is done. */
+    public static final class LeaseMapException extends Exception {
+        private static final long serialVersionUID = 1;
+        private final transient Map<Lease, Refused> exceptionMap;
+        private final transient Map<Lease, Lease> renewed;
+
+        private LeaseMapException(Map<Lease, Refused> exceptionMap, Map<Lease, Lease> renewed) {
+            super(exceptionMap.size() + " leases were refused, the first with "
+                    + exceptionMap.values().iterator().next().getMessage());
+            this.exceptionMap = Collections.unmodifiableMap(exceptionMap);
+            this.renewed = Collections.unmodifiableMap(renewed);
+        }
+
+        /** Each lease that was refused, with why. */
+        public Map<Lease, Refused> exceptionMap() {
+            return exceptionMap;
+        }
+
+        /** Each lease that was renewed, with what is granted to it; of `cancelAll` none. */
+        public Map<Lease, Lease> renewed() {
+            return renewed;
         }
     }
 
