@@ -8,16 +8,25 @@ processor times is divided by how often it was done. PROGRAM is the program itse
 counted. With WORDS only those rows are measured that have them in their names.
 
 The second table is of what stands and waits, and who pays for it. Its figures are those beside nothing and beside ever
-more, of which one is twice another, and each row has a goal.
+more, of which one is twice another, and each row has a goal. The memory of stored entries is that of a server, by what
+it has before they are written and behind that; it begins an era each thousand steps, so that its history is small.
 """
 import json
 import os
+import re
 import statistics
 import subprocess
 import sys
 import tempfile
+from pathlib import Path
+
+sys.path.insert(0, str(Path(__file__).parent.parent / "examples" / "clients"))
+from jsp import LONGEST, Client  # noqa: E402
+from jsp import entry as client_entry  # noqa: E402
 
 HOUR = 3_600_000
+# How many entries a server has before it is looked at what more of them take, and how many a request writes.
+FIRST_ENTRIES, BATCH = 2_048, 64
 CLASS = '{"op":"declare","class":"Job","fields":{"k":"int","who":"text"}}'
 
 
@@ -711,24 +720,6 @@ def rows_with_goals():
     yield "a write of the last session, beside others", sizes, "that beside none", writes_of_last, MANY
 
 
-def fill(script, first, count, texts):
-    """So many entries of other values, and of so many texts."""
-    for start in range(first, first + count, 64):
-        values = range(start, min(start + 64, first + count))
-        script.write_all([job(value, f"text {value % texts}") for value in values])
-
-
-def filled_twice(emptied, count, texts):
-    """Entries, and as many again. In between this space is emptied, or the other one, which is empty. So both scripts
-    ask, answer and keep a history alike, and differ in what stands at the end alone."""
-    script = Script()
-    script.send('{"op":"hello","version":2}')
-    fill(script, 0, count, texts)
-    script.send(f'{{"op":"reset","space":"{emptied}"}}')
-    fill(script, count, count, texts)
-    return script
-
-
 def show(*cells):
     print("|", " | ".join(cells), "|", flush=True)
 
@@ -753,10 +744,37 @@ def print_kinds(program, rounds, words):
             show(name, f"{each:,.0f} bytes of memory each", f"{micros:.1f}")
 
 
+def resident(pid):
+    """How many bytes of memory a process has."""
+    status = Path(f"/proc/{pid}/status").read_text()
+    return 1024 * int(re.search(r"^VmRSS:\s*(\d+) kB$", status, re.MULTILINE)[1])
+
+
+def write_jobs(jsp, first, count, texts):
+    """Entries of other values each, and of so many texts."""
+    for start in range(first, first + count, BATCH):
+        values = range(start, min(start + BATCH, first + count))
+        jobs = [client_entry("Job", k=value, who=f"text {value % texts}") for value in values]
+        jsp.write_all("a", jobs, lease=LONGEST)
+
+
 def bytes_of_each(program, rounds, count, texts):
-    scripts = [filled_twice(emptied, count, texts).text() for emptied in "ab"]
-    _, each = measure(program, rounds, *scripts, count)
-    return each
+    """What each of so many entries takes of a server that keeps little of its history, beside others that stand."""
+    found = []
+    for _ in range(rounds):
+        command = [program, "listen", "--log", "off", "--era", "1000", "127.0.0.1:0", "a"]
+        with subprocess.Popen(command, stdout=subprocess.PIPE, stderr=subprocess.DEVNULL) as server:
+            try:
+                host, port = server.stdout.readline().split()[1].decode().rsplit(":", 1)
+                with Client(host, int(port)) as jsp:
+                    jsp.declare("Job", k="int", who="text")
+                    write_jobs(jsp, 0, FIRST_ENTRIES, texts)
+                    before = resident(server.pid)
+                    write_jobs(jsp, FIRST_ENTRIES, count, texts)
+                    found.append((resident(server.pid) - before) / count)
+            finally:
+                server.kill()
+    return statistics.median(found)
 
 
 def print_goals(program, rounds, words):

@@ -11,9 +11,11 @@ waited at the longest while it was under way and shortly after. Where somebody w
 for an entry that doesn't come.
 
 The second table is of what one request, or the clock, causes to very many others: leases that end while the server is
-halted, requests that one write answers, events of one batch and of one commit, entries that a reset drops. Told is what
+halted, requests that one write answers, events of one batch and of one commit, entries that a reset drops, registrations
+of a session that closes, requests that a reset refuses. Told is what
 the other client waited at the longest until nothing of it was left to do; the goal is 10 ms.
 """
+import contextlib
 import multiprocessing
 import os
 import resource
@@ -25,7 +27,7 @@ import time
 from pathlib import Path
 
 sys.path.insert(0, str(Path(__file__).parent.parent / "examples" / "clients"))
-from jsp import FOREVER, LONGEST, Client, entry  # noqa: E402
+from jsp import FOREVER, LONGEST, Client, Refused, entry  # noqa: E402
 
 # Entries of a batch, and of a take of several.
 WRITTEN, TAKEN = 64, 16
@@ -92,7 +94,7 @@ def end(address, spaces, each, kind, ends, waits, listeners):
 
 def measure(program, rounds, spaces, each, *what):
     names = [f"space{place}" for place in range(spaces)]
-    command = [program, "listen", "127.0.0.1:0", *names, "other"]
+    command = [program, "listen", "--log", "off", "127.0.0.1:0", *names, "other"]
     times = []
     for _ in range(rounds):
         with subprocess.Popen(command, stdout=subprocess.PIPE, stderr=subprocess.DEVNULL) as server:
@@ -191,9 +193,46 @@ def dropped_at_once(server, address, count):
         yield drop
 
 
+def closed_at_once(server, address, count):
+    """A session of so many registrations closes."""
+    with Client(*address) as jsp:
+        listener = Client(*address)
+        jsp.declare("Job", k="int")
+        for value in range(count):
+            listener.notify("a", entry("Job", k=value), lease=FOREVER)
+
+        def close():
+            listener.call("bye")
+            jsp.write("a", entry("Job", k=1), lease=FOREVER)
+
+        yield close
+        listener.socket.close()
+
+
+def refused_at_once(server, address, count):
+    """A space is reset at which so many reads wait under transactions, 64 of each session."""
+    clients = [Client(*address) for _ in range(count // 64)]
+    clients[0].declare("Job", k="int")
+    for place, client in enumerate(clients):
+        txn = client.call("txn", lease=FOREVER)["lease"]
+        for value in range(64):
+            template = entry("Job", k=64 * place + value)
+            last = client.send("read", space="a", template=template, timeout=FOREVER, txn=txn)
+        client.spaces()
+
+    def reset():
+        clients[0].reset("a")
+        with contextlib.suppress(Refused):
+            clients[-1].wait(last)
+
+    yield reset
+    for client in clients:
+        client.socket.close()
+
+
 def wait_beside(program, case, count):
     """What another client waits at the longest, and usually, in milliseconds."""
-    command = [program, "listen", "--connections", "4096", "127.0.0.1:0", "a", "other"]
+    command = [program, "listen", "--log", "off", "--connections", "4096", "127.0.0.1:0", "a", "other"]
     with subprocess.Popen(command, stdout=subprocess.PIPE, stderr=subprocess.DEVNULL) as server:
         try:
             host, port = server.stdout.readline().split()[1].decode().rsplit(":", 1)
@@ -228,6 +267,8 @@ CAUSES = {
     told_at_once: (1_024, 4_096),
     committed_at_once: (1_000, 4_000),
     dropped_at_once: (16_384, 65_536),
+    closed_at_once: (1_024, 4_096),
+    refused_at_once: (4_096, 16_384),
 }
 
 

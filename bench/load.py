@@ -98,7 +98,7 @@ def main():
     program, minutes = sys.argv[1], float(sys.argv[2])
     clients = int(sys.argv[3]) if len(sys.argv) > 3 else 16
     entries = int(sys.argv[4]) if len(sys.argv) > 4 else 60_000
-    with subprocess.Popen([program, "listen", "127.0.0.1:0", "a", "b"], stdout=subprocess.PIPE) as server:
+    with subprocess.Popen([program, "listen", "--log", "off", "127.0.0.1:0", "a", "b"], stdout=subprocess.PIPE) as server:
         try:
             load(server, minutes, clients, entries)
         finally:

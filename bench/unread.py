@@ -75,7 +75,7 @@ def measure(server, count):
 def main(program, *counts):
     print("| Clients that read none of their events | Processor time of a request, in µs |", "|---|---|", sep="\n")
     for count in [int(count) for count in counts] or [0, 50, 200]:
-        command = [program, "listen", "--connections", str(count + 1), "127.0.0.1:0", "a"]
+        command = [program, "listen", "--log", "off", "--connections", str(count + 1), "127.0.0.1:0", "a"]
         with subprocess.Popen(command, stdout=subprocess.PIPE, stderr=subprocess.DEVNULL) as server:
             try:
                 print(f"| {count} | {measure(server, count):.1f} |", flush=True)

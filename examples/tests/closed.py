@@ -36,7 +36,7 @@ def same(seen, wanted):
 @contextmanager
 def server(program):
     """A server whose streams are open, with one entry in a."""
-    words = [program, "listen", "--until-input", "127.0.0.1:0", "a", "b"]
+    words = [program, "listen", "--log", "off", "--until-input", "127.0.0.1:0", "a", "b"]
     with subprocess.Popen(
         words, stdin=subprocess.PIPE, stdout=subprocess.PIPE, stderr=subprocess.PIPE, text=True
     ) as process:
@@ -76,12 +76,12 @@ def free_port():
 
 
 def a_server(program):
-    listen = [program, "listen", "--until-input", "127.0.0.1:0", "a"]
+    listen = [program, "listen", "--log", "off", "--until-input", "127.0.0.1:0", "a"]
     status, said, told = run(listen, INPUT)
     assert status == 0 and said.startswith("listening 127.0.0.1:") and told.startswith("jsp: compared 0 lines"), said
     for closed in (OUTPUT, ERROR):
         port = free_port()
-        words = [program, "listen", "--lines", "1", f"127.0.0.1:{port}", "a"]
+        words = [program, "listen", "--log", "off", "--lines", "1", f"127.0.0.1:{port}", "a"]
         with subprocess.Popen(
             words, stdout=subprocess.PIPE, stderr=subprocess.PIPE, text=True, preexec_fn=lambda: os.close(closed)
         ) as process:

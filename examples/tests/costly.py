@@ -122,7 +122,7 @@ def aims_at_a_replay(program):
 
 def listen(program, *options, **how):
     server = subprocess.Popen(
-        [program, "listen", *options, "127.0.0.1:0", "a"], stdin=subprocess.PIPE, stdout=subprocess.PIPE,
+        [program, "listen", "--log", "off", *options, "127.0.0.1:0", "a"], stdin=subprocess.PIPE, stdout=subprocess.PIPE,
         stderr=subprocess.PIPE, text=True, **how,
     )
     host, port = server.stdout.readline().split()[1].split(":")

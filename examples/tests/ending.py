@@ -30,7 +30,7 @@ REQUESTS = {
 def listen(program, *options, descriptors=1024):
     """A server that ends at a line of input, and its address."""
     server = subprocess.Popen(
-        [*program, "listen", "--until-input", *options, "127.0.0.1:0", "a", "b"],
+        [*program, "listen", "--log", "off", "--until-input", *options, "127.0.0.1:0", "a", "b"],
         stdin=subprocess.PIPE,
         stdout=subprocess.PIPE,
         stderr=subprocess.PIPE,

@@ -237,7 +237,8 @@ def three_never_read_their_events(address):
 
 
 def is_granted_large_entries(address):
-    """It waits for an entry of 8,000 bytes, 64 times, and one write brings it all of them: more than may wait for it."""
+    """It waits for an entry of 8,000 bytes, 64 times, and one write brings it all of them: more than may wait for it. Its
+    connection ends, whatever was written by then, which may be all 64."""
     with Client(*address) as reader, Client(*address) as writer:
         for client in (reader, writer):
             client.socket.settimeout(SECONDS)
@@ -249,6 +250,7 @@ def is_granted_large_entries(address):
         try:
             for read in reads:
                 reader.wait(read)
+            reader.spaces()
         except ConnectionError:
             pass
         else:

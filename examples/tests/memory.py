@@ -66,7 +66,7 @@ class Server:
 @contextmanager
 def serving(program, *options):
     process = subprocess.Popen(
-        [*program, "listen", "--status", "127.0.0.1:0", *options, "127.0.0.1:0", "a"],
+        [*program, "listen", "--log", "off", "--status", "127.0.0.1:0", *options, "127.0.0.1:0", "a"],
         stdout=subprocess.PIPE,
     )
     try:

@@ -29,7 +29,7 @@ LARGE = "x" * 8_000
 def serving(program, memory, *options):
     """The address of a server that may have so many bytes of memory. At its end it has compared what it can."""
     server = subprocess.Popen(
-        [*program, "listen", "--until-input", *options, "127.0.0.1:0", "a", "b", "c"],
+        [*program, "listen", "--log", "off", "--until-input", *options, "127.0.0.1:0", "a", "b", "c"],
         stdin=subprocess.PIPE,
         stdout=subprocess.PIPE,
         stderr=subprocess.PIPE,

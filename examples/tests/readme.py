@@ -97,7 +97,7 @@ class Page:
 
 def main(program):
     program = str(Path(program).resolve())
-    listen = [program, "listen", "--until-input", "127.0.0.1:0", "a", "b"]
+    listen = [program, "listen", "--log", "off", "--until-input", "127.0.0.1:0", "a", "b"]
     with subprocess.Popen(
         listen, stdin=subprocess.PIPE, stdout=subprocess.PIPE, stderr=subprocess.PIPE, text=True
     ) as server, tempfile.TemporaryDirectory() as classes:

@@ -13,6 +13,7 @@ import sys
 import tempfile
 import threading
 import time
+from concurrent.futures import ThreadPoolExecutor
 from pathlib import Path
 
 TESTS = Path(__file__).parent
@@ -26,6 +27,8 @@ REASONS = 7  # why a connection is refused
 NAMED = 16  # how many sessions a server names
 MANY = 2**62
 RETRIES = 40  # how often a growth of a script's calls is refused
+TAKES = 40  # how many servers have a take of whose growths all are refused, each from another one on
+LATE = 7  # for how many seconds: longer than a line waits whose session is closed
 NOT_BEGUN = 2  # the status of jsp_retry where it couldn't begin
 
 
@@ -57,7 +60,7 @@ class Refusing:
     def listen(self, *words):
         """A server, and its address."""
         server = subprocess.Popen(
-            [*self.program, "listen", *words, "127.0.0.1:0", "a", "b"],
+            [*self.program, "listen", "--log", "off", *words, "127.0.0.1:0", "a", "b"],
             stdin=subprocess.PIPE,
             stdout=subprocess.PIPE,
             stderr=subprocess.PIPE,
@@ -207,6 +210,38 @@ def famine(refusing):
     server.kill()
 
 
+def late(refusing):
+    """From some growth of a take on all are refused for many seconds, at a server of its own each: who has taken the entry
+    is told so once there is memory, and where nobody is told so it is still there."""
+    library, program = refusing.environment["LD_PRELOAD"], refusing.program
+    with ThreadPoolExecutor(TAKES) as pool:
+        waits = list(pool.map(lambda first: take_while_refused(Refusing(library, program), first), range(1, TAKES + 1)))
+    assert max(waits) > LATE - AT_ONCE, waits
+
+
+def take_while_refused(refusing, first):
+    """How many seconds a take waits for its answer, of whose growths all are refused from this one on for a while; 0 where
+    its line ends."""
+    server, address = refusing.listen()
+    job, taken = entry("Job", k=1), []
+    with connect(address) as jsp:
+        jsp.declare("Job", k="int")
+        jsp.write("a", job, lease=LONGEST)
+        refusing.refuse(GROWTHS, first, MANY)
+        end = threading.Timer(LATE, refusing.refuse, (GROWTHS, 0))
+        end.start()
+        began = time.monotonic()
+        is_ended = is_cut(lambda: taken.append(jsp.take("a", job)))
+        waited = time.monotonic() - began
+        end.join()
+    with connect(address) as jsp:
+        jsp.declare("Job", k="int")
+        left = jsp.take("a", job)
+    server.kill()
+    assert [*taken, left] == ([{"k": 1}] if is_ended else [{"k": 1}, None]), (first, taken, left)
+    return 0 if is_ended else waited
+
+
 def write_while_refused(refusing, address, first, many, is_met):
     """A client writes while growths are refused, from its request on where it was met before, else from its connection
     on. It asks once more where none is: a line has ended of which something found no memory."""
@@ -288,7 +323,7 @@ def threads(refusing):
 
 def lonely(refusing):
     """A server for whose first connection there are no threads doesn't listen, and one that can't settle serves nobody."""
-    words = ["listen", "127.0.0.1:0", "a"]
+    words = ["listen", "--log", "off", "127.0.0.1:0", "a"]
     for first in range(1, 4):
         refusing.refuse(THREADS, first, MANY)
         told = b"jsp: no threads are left for a connection\n"
@@ -397,7 +432,7 @@ def retried(refusing):
         assert unmade > runs // 4 and made > 0, (house, unmade, made, runs)
 
 
-CASES = [scripts, audits, served, famine, ended, unmet, threads, lonely, accepts, sends, shell, retried]
+CASES = [scripts, audits, served, famine, late, ended, unmet, threads, lonely, accepts, sends, shell, retried]
 CASES = {case.__name__: case for case in CASES}
 
 if __name__ == "__main__":

@@ -49,7 +49,7 @@ def threads_for(count):
 
 def start(program, limit, *options):
     return subprocess.Popen(
-        [*program, "listen", *options, "127.0.0.1:0", "a", "b"],
+        [*program, "listen", "--log", "off", *options, "127.0.0.1:0", "a", "b"],
         stdin=subprocess.PIPE,
         stdout=subprocess.PIPE,
         stderr=subprocess.PIPE,

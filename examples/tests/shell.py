@@ -7,11 +7,15 @@ Each case is run against a server of its own, or needs none, and prints nothing 
 to come is worked out by docs/PROTOCOL.md.
 """
 import json
+import os
+import pty
+import select
 import socket
 import struct
 import subprocess
 import sys
 import tempfile
+import termios
 import time
 from pathlib import Path
 
@@ -97,6 +101,9 @@ BAD_LINES = [
     ('{"op":"take","space":"a","template":null,"timeout":0,"wait":0}', "`take` has no place for `wait`"),
     ('{"op":"spaces","id":1}', "`id` is there, which the client gives"),
     ('{"op":"begin","lease":1}', "no operation `begin`"),
+    ('{"op":"list","space":"a","template":null,"lease":1}', "no operation `list`"),
+    ("list", "`list` lacks `space`"),
+    ("quit now", "`quit` has no place for `now`"),
     ('{"space":"a"}', "`op` is missing"),
     ('{"op":"spaces"', "not JSON: "),
     ("write a Job who=" + "x" * 1_048_577, "longer than 1048576 bytes"),
@@ -122,12 +129,41 @@ CONTROLS = [
 ]
 
 
+# Requests of classes of the session: the line, its answer, none where it isn't sent, and a part of what is told. `Rush`
+# is below `Job`, which is declared already. `Car` isn't declared.
+UNFIT = [
+    ("write a Job k=ann", '{"fault":9,"id":4}', "refused, 9 BadEntry: `k` of `Job` is int; "),
+    ("take a Rush who=1", '{"fault":9,"id":5}', "refused, 9 BadEntry: `who` of `Rush` is text; "),
+    ("take_many a Job k=1, Rush n=true", '{"fault":9,"id":6}', "refused, 9 BadEntry: `n` of `Rush` is int; "),
+    (
+        '{"op":"take","space":"a","template":{"class":"Rush","fields":{"timeot":null}},"timeout":0}',
+        '{"fault":9,"id":7}',
+        "refused, 9 BadEntry: `Rush` has no field `timeot`; give ",
+    ),
+    (
+        '{"op":"take","space":"a","template":{"class":"Job","fields":{"x":1}},"timeout":0}',
+        '{"fault":9,"id":8}',
+        "refused, 9 BadEntry: `Job` has no field `x`; ",
+    ),
+    ("take a Job timeot=5", None, "`Job` has no field `timeot`; did you mean `timeout=`?"),
+    ("take a Job k=1 wiat=5", None, "`Job` has no field `wiat`; did you mean `wait=`?"),
+    ("write a Rush hwo=ann", None, "`Rush` has no field `hwo`; did you mean `who=`?"),
+    ("write_all a Job k=1, Job leese=5", None, "`Job` has no field `leese`; did you mean `lease=`?"),
+    ("write a Job k=ann colour=red", None, "`Job` has no field `colour`"),
+    ("write a Job kk=1 " + "x" * 100_000 + "=1", None, "`Job` has no field `kk`"),
+    ("take a Car timeot=5", '{"fault":8,"id":9}', "refused, 8 UnknownClass: "),
+    # What is refused declares nothing.
+    ("declare Job k:int", '{"fault":7,"id":10}', "refused, 7 Differs: "),
+    ("write a Job who=1", '{"fault":9,"id":11}', "refused, 9 BadEntry: `who` of `Job` is text; "),
+]
+
+
 class Shell:
     """A client whose input is written, and whose output read, as it goes on."""
 
-    def __init__(self, program, address):
+    def __init__(self, program, address, *request):
         self.ran = subprocess.Popen(
-            [program, "client", address],
+            [program, "client", address, *request],
             stdin=subprocess.PIPE,
             stdout=subprocess.PIPE,
             stderr=subprocess.PIPE,
@@ -154,9 +190,9 @@ def run(program, address, lines, *request):
     return ran.stdout.splitlines(), ran.stderr.splitlines(), ran.returncode
 
 
-def left(numbers):
-    """What is told of the lines of these numbers, which stand behind a `bye`."""
-    return [f"jsp: line {number}: not sent, since the session was left by `bye`" for number in numbers]
+def left(numbers, by="bye"):
+    """What is told of the lines of these numbers, which stand behind one that leaves the session."""
+    return [f"jsp: line {number}: not sent, since the session was left by `{by}`" for number in numbers]
 
 
 def same(found, wanted):
@@ -255,6 +291,180 @@ def the_end_of_input_waits(program, address):
     same(run(program, address, []), ([], [], 0))
 
 
+def quit_waits(program, address):
+    """As the end of the input it waits for what is open, though the input goes on. Lines behind it aren't sent."""
+    shell = Shell(program, address)
+    shell.write("take a * timeout=300")
+    shell.write("quit")
+    shell.ran.wait(SECONDS)
+    same(shell.end(), ('{"id":1,"ok":null}\n', "", 0))
+    same(run(program, address, ["quit", "spaces", "", "# no more", "bye"]), ([], left([2, 5], "quit"), 1))
+    same(run(program, address, ["spaces", "quit"]), (['{"id":1,"ok":["a","b"]}'], [], 0))
+    same(run(program, address, [], "quit"), ([], [], 0))
+
+
+def what_does_not_fit_its_class(program, address):
+    """A field that a class of the session hasn't isn't sent in a short form. What else doesn't fit is named once it is
+    refused. A class whose parent another session declared is only the server's to know."""
+    declared = ["declare Job k:int who:text", "declare Rush n:int parent=Job", "declare Job k:int who:text"]
+    out, told, status = run(program, address, [*declared, *(line for line, _, _ in UNFIT)])
+    same(out[:3], ['{"id":%d,"ok":null}' % number for number in (1, 2, 3)])
+    same(out[3:], [printed for _, printed, _ in UNFIT if printed])
+    same(len(told), len(UNFIT))
+    # What isn't sent is told without waiting for earlier answers.
+    told.sort(key=lambda line: int(line.split()[2].rstrip(":")))
+    for number, (line, (_, printed, wanted)) in enumerate(zip(told, UNFIT), 4):
+        wanted = f"jsp: line {number}: {wanted}"
+        assert line.startswith(wanted) if printed else line == wanted, line
+    same(status, 1)
+    out, told, status = run(program, address, ["declare Late z:int parent=Job", "take a Late timeot=5"])
+    same((out, status), (['{"id":1,"ok":null}', '{"fault":9,"id":2}'], 1))
+    same(len(told), 1)
+    assert told[0].startswith("jsp: line 2: refused, 9 BadEntry: give it just "), told
+
+
+def an_entry_must_be_found(program, address):
+    """By `--must` a read or a take that finds nothing is told, and the status is 1. Other answers don't count."""
+    lines = [
+        "declare Job k:int",
+        "write a Job k=1 lease=60000",
+        "read a Job",
+        "read_if a Job k=2",
+        "take_many a Job k=2, Job k=3",
+        '{"op":"take_if","space":"a","template":null,"timeout":0}',
+        "take a Job k=1",
+        "spaces",
+    ]
+    entry = '{"class":"Job","fields":{"k":1}}'
+    found = ["null", '{"lease":1,"ms":60000}', entry, "null", "null", entry, "null", '["a","b"]']
+    printed = ['{"id":%d,"ok":%s}' % answer for answer in enumerate(found, 1)]
+    told = [f"jsp: line {number}: no entry" for number in (4, 5, 7)]
+    same(run(program, address, lines, "--must"), (printed, told, 1))
+    none = (['{"id":1,"ok":null}'], ["jsp: line 1: no entry"], 1)
+    same(run(program, address, [], "--must", "take", "a", "Job"), none)
+    out, told, status = run(program, address, [], "--must", "cancel_all 1")
+    same((out, len(told), status), (['{"id":1,"ok":[{"fault":12,"lease":1}]}'], 1, 1))
+    same(run(program, address, ["declare Job k:int", "write a Job lease=60000", "take a Job"], "--must")[2], 0)
+    same(run(program, address, [], "take a *"), (['{"id":1,"ok":null}'], [], 0))
+
+
+def watching(program, address):
+    """Its lease is told, of an hour where none is asked, and events are printed. A client with this request alone goes on
+    until it is ended; where it is refused it ends."""
+    watch = Shell(program, address, "watch", "a", "Job", "k=3", "handback=three")
+    same(watch.read(), '{"fault":8,"id":1}')
+    watch.ran.wait(SECONDS)
+    same(watch.end()[2], 1)
+    same(run(program, address, [], "declare Job k:int"), (['{"id":1,"ok":null}'], [], 0))
+    watch = Shell(program, address, "watch", "a", "Job", "k=3", "handback=three")
+    same(watch.read(), '{"id":1,"ok":{"lease":1,"ms":3600000}}')
+    session = Shell(program, address)
+    session.write("watch a Job lease=60000")
+    same(session.read(), '{"id":1,"ok":{"lease":2,"ms":60000}}')
+    lines = ["write a Job k=3 lease=60000", "write a Job k=4 lease=60000", "write a Job k=3 lease=60000"]
+    same(run(program, address, lines)[1:], ([], 0))
+    for seq in (1, 2, 3):
+        same(session.read(), '{"event":{"handback":"","lease":2,"seq":%d}}' % seq)
+    same(session.end(), ("", "", 0))
+    for seq in (1, 2):
+        same(watch.read(), '{"event":{"handback":"three","lease":1,"seq":%d}}' % seq)
+    same(watch.ran.poll(), None)
+    watch.ran.terminate()
+    same(watch.end()[:2], ("", ""))
+
+
+def listing(program, address):
+    """Entries are printed a line each, in the order in which they were written, over several pages and at the border of
+    one. Its match set is closed behind it, and what the next line asks is printed behind it."""
+    def entries(numbers):
+        return ['{"class":"Job","fields":{"k":%d}}' % number for number in numbers]
+
+    lines = ["declare Job k:int", *(f"write a Job k={number} lease=600000" for number in range(32))]
+    same(run(program, address, lines)[1:], ([], 0))
+    # Each listing draws a number for its match set.
+    lines = ["list a Job", "spaces", "list a", "list a Job k=20", "list b", "close_set 33", "list x"]
+    out, told, status = run(program, address, lines)
+    same(out[:34], [*entries(range(32)), '{"id":1,"ok":null}', '{"id":2,"ok":["a","b"]}'])
+    same(out[34:67], [*entries(range(32)), '{"id":3,"ok":null}'])
+    same(out[67:70], [*entries([20]), '{"id":4,"ok":null}', '{"id":5,"ok":null}'])
+    same(out[70:], ['{"fault":12,"id":6}', '{"fault":5,"id":7}'])
+    same(([line.split(": ")[2] for line in told], status), (["refused, 12 UnknownLease", "refused, 5 UnknownSpace"], 1))
+    same(run(program, address, [], "write a Job k=32 lease=600000")[1:], ([], 0))
+    same(run(program, address, [], "list", "a", "Job"), ([*entries(range(33)), '{"id":1,"ok":null}'], [], 0))
+
+
+class Terminal:
+    """A client at a terminal that echoes nothing and changes no line's end."""
+
+    def __init__(self, program, address):
+        self.master, slave = pty.openpty()
+        modes = termios.tcgetattr(slave)
+        modes[1] &= ~termios.OPOST
+        modes[3] &= ~termios.ECHO
+        termios.tcsetattr(slave, termios.TCSANOW, modes)
+        self.ran = subprocess.Popen([program, "client", address], stdin=slave, stdout=slave, stderr=slave)
+        os.close(slave)
+        self.shown = ""
+
+    def type(self, text):
+        os.write(self.master, text.encode())
+
+    def shows(self, wanted):
+        """It shows just this next."""
+        deadline = time.monotonic() + SECONDS
+        while len(self.shown) < len(wanted) and self.read(deadline):
+            pass
+        same(self.shown[: len(wanted)], wanted)
+        self.shown = self.shown[len(wanted) :]
+
+    def read(self, deadline):
+        """Reads more of what is shown. At the end of the client there is no more."""
+        ready, _, _ = select.select([self.master], [], [], max(0, deadline - time.monotonic()))
+        try:
+            read = os.read(self.master, 4096) if ready else b""
+        except OSError:
+            return False
+        self.shown += read.decode()
+        return read != b""
+
+    def end(self):
+        """What else it shows, and its status."""
+        while self.read(time.monotonic() + SECONDS):
+            pass
+        os.close(self.master)
+        return self.shown, self.ran.wait(SECONDS)
+
+
+def at_a_terminal(program, address):
+    """A prompt stands where a line may be typed. An event doesn't fall into the line that is being typed, which stays
+    whole. At the end it is told what is waited for."""
+    same(run(program, address, [], "declare Job k:int"), (['{"id":1,"ok":null}'], [], 0))
+    terminal = Terminal(program, address)
+    terminal.shows("jsp> ")
+    terminal.type("spaces\n")
+    terminal.shows('{"id":1,"ok":["a","b"]}\njsp> ')
+    terminal.type("\n")
+    terminal.shows("jsp> ")
+    terminal.type("help quit\n")
+    terminal.shows("quit\n")
+    terminal.shows("  ends the session once all is answered, as the end of the input does\n  quit\njsp> ")
+    terminal.type("spaces a\n")
+    terminal.shows("jsp: line 4: `spaces` has no place for `a`; try `help spaces`\njsp> ")
+    terminal.type("watch a Job\n")
+    terminal.shows('{"id":2,"ok":{"lease":1,"ms":3600000}}\njsp> ')
+    terminal.type("spa")
+    same(run(program, address, [], "write a Job k=3 lease=60000"), (['{"id":1,"ok":{"lease":2,"ms":60000}}'], [], 0))
+    terminal.shows('\n{"event":{"handback":"","lease":1,"seq":1}}\njsp> ')
+    terminal.type("ces\n")
+    terminal.shows('{"id":3,"ok":["a","b"]}\njsp> ')
+    terminal.type("list a Job\n")
+    terminal.shows('{"class":"Job","fields":{"k":3}}\n{"id":4,"ok":null}\njsp> ')
+    terminal.type("take b * timeout=700\ntake b Job timeout=600\n\x04")
+    terminal.shows("jsp: waits for the answers to 5 (line 8), 6 (line 9)\n")
+    terminal.shows('{"id":6,"ok":null}\n{"id":5,"ok":null}\n')
+    same(terminal.end(), ("", 1))
+
+
 def lines_behind_bye(program, address):
     """Each that was written together with `bye` is told, and counts as refused, however often it is tried. Empty lines and
     comments don't count."""
@@ -301,6 +511,19 @@ def one_request(program, address):
     same((len(out), told, status), (3, [], 0))
 
 
+def one_request_in_words(program, address):
+    """The words of a request may be arguments of their own, also those that begin with a hyphen."""
+    same(run(program, address, [], "declare", "Job", "k:int", "who:text"), (['{"id":1,"ok":null}'], [], 0))
+    leased = (['{"id":1,"ok":{"lease":1,"ms":60000}}'], [], 0)
+    same(run(program, address, [], "write", "a", "Job", "k=1", 'who="ann lee"'), leased)
+    same(run(program, address, [], "renew", "1", "-1"), leased)
+    shown = (['{"id":1,"ok":{"class":"Job","fields":{"k":1,"who":"ann lee"}}}'], [], 0)
+    same(run(program, address, [], "read", "a Job", "k=1"), shown)
+    same(run(program, address, [], '{"op":"take",', '"space":"a",', '"template":null,"timeout":0}'), shown)
+    told = ["jsp: line 1: `--must` isn't `field=value`"]
+    same(run(program, address, [], "take", "a", "Job", "--must"), ([], told, 1))
+
+
 def many_at_once(program, address):
     """Ten thousand requests are written before an answer is read, and each is answered."""
     out, told, status = run(program, address, ["spaces"] * 10_000)
@@ -316,9 +539,12 @@ def help_has_each_operation(program, address):
         word = line.strip().split()[0]
         assert word[0] == "{" or any(word in form.split()[0].split("|") for form in out if form[:2] == "  "), word
     forms = [form.split()[0].split("|")[0] for form in out if form[:2] == "  "]
+    assert {"list", "watch", "quit"} < set(forms), forms
     examples = [run(program, address, [], f"help {form}")[0][2] for form in forms]
-    _, told, _ = run(program, address, [example for example in examples if example.strip() != "bye"])
+    _, told, _ = run(program, address, [example for example in examples if example.strip() not in ("bye", "quit")])
     assert all(line.split(": ")[2].startswith("refused, ") for line in told), told
+    # The same is told where there is no server.
+    same(subprocess.run([program, "client", "help"], capture_output=True, text=True).stdout.splitlines(), out)
 
 
 def served_once(told):
@@ -385,6 +611,19 @@ def a_server_that_sends_control_characters(program):
         same(against(program, HELLO + frame(payload)), garbage)
 
 
+def help_without_a_server(program):
+    """One operation, and none that there is."""
+    def told(*words):
+        ran = subprocess.run([program, "client", "help", *words], capture_output=True, text=True, timeout=SECONDS)
+        return ran.stdout.splitlines(), ran.stderr, ran.returncode
+
+    out, faults, status = told("take")
+    same((out[0][:11], out[2], faults, status), ("take space ", "  take a Job k=1 timeout=5000", "", 0))
+    assert any("rlwrap" in line for line in told()[0])
+    same(told("Take"), ([], "jsp: no operation `Take`; try `help`\n", 1))
+    same(told("take", "now")[::2], ([], 1))
+
+
 def a_server_that_is_not_there(program):
     """The client says why, and sends nothing."""
     with socket.create_server(("127.0.0.1", 0)) as server:
@@ -408,14 +647,22 @@ CASES = {
     lines_behind_bye: 52,
     much_behind_bye: 21,
     one_request: 6,
+    one_request_in_words: 6,
+    quit_waits: 4,
+    what_does_not_fit_its_class: 2,
+    an_entry_must_be_found: 5,
+    watching: 5,
+    listing: 4,
+    at_a_terminal: 3,
     many_at_once: 1,
-    help_has_each_operation: 26,
+    help_has_each_operation: 29,
 }
 
 ALONE = [
     a_server_that_goes_away,
     a_server_that_sends_garbage,
     a_server_that_sends_control_characters,
+    help_without_a_server,
     a_server_that_is_not_there,
 ]
 

@@ -1,5 +1,5 @@
-"""A server all of whose places are taken, and a client that wants one: who has been silent for a minute and waits for nothing
-gives its place up, and nobody else.
+"""A server all of whose places are taken, and a client that wants one: who has been silent for a minute and waits for
+nothing gives its place up, and nobody else.
 
     python3 silent.py PROGRAM..
 
@@ -34,7 +34,7 @@ def is_served(address):
 
 def main(program):
     server = subprocess.Popen(
-        [*program, "listen", "--until-input", "--connections", str(PLACES), "127.0.0.1:0", "a", "b"],
+        [*program, "listen", "--log", "off", "--until-input", "--connections", str(PLACES), "127.0.0.1:0", "a", "b"],
         stdin=subprocess.PIPE,
         stdout=subprocess.PIPE,
         stderr=subprocess.PIPE,
@@ -42,7 +42,9 @@ def main(program):
     host, port = server.stdout.readline().decode().split()[1].rsplit(":", 1)
     address = host, int(port)
     first, second, takes, listens, talks = [Client(*address) for _ in range(PLACES)]
+    # Silence is counted in milliseconds, so the two begin theirs apart.
     first.declare("Job", k="int")
+    time.sleep(1)
     second.declare("Job", k="int")
     waits = takes.send("take", space="a", template=entry("Job", k=1), timeout=10**9, txn=None)
     listens.notify("b", entry("Job"), lease=10**9)

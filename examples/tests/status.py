@@ -2,9 +2,9 @@
 
     python3 status.py PROGRAM..
 
-It asks the server for things, and compares the numbers that are shown with those that follow from what was asked. Then
-it asks for what isn't shown, and in ways that no browser does. It prints nothing where all is as it should be, and the
-server ends in order with status 0.
+It asks the server for things, and compares the numbers that are shown with those that follow from what was asked, as
+JSON, as metrics and on the page. Then it asks for what isn't shown, and in ways that no browser does. It prints nothing
+where all is as it should be, and the server ends in order with status 0.
 """
 import json
 import re
@@ -24,6 +24,12 @@ SECONDS = 60
 AGE = 1.1  # what is shown may be a second old
 VERSION = "0.1.0"
 ASKS = b"GET / HTTP/1.1\r\nHost: jsp\r\n\r\n"
+NAMES = {1: "BadJson", 5: "UnknownSpace", 11: "BadTimeout", 12: "UnknownLease"}  # docs/PROTOCOL.md, section 4
+
+# The text format of Prometheus, version 0.0.4: the names of metrics and of labels, a label's value, and a sample.
+METRIC = r"[a-zA-Z_:][a-zA-Z0-9_:]*"
+LABEL = r'([a-zA-Z_][a-zA-Z0-9_]*)="((?:[^"\\\n]|\\[\\"n])*)"'
+SAMPLE = re.compile(rf"({METRIC})(?:\{{({LABEL}(?:,{LABEL})*)\}})? ([0-9]+)")
 
 
 def address_after(server, word):
@@ -38,7 +44,7 @@ def address_after(server, word):
 def serving(program, *options):
     """A server of two spaces, its address, and that of its status. It is killed where something went wrong."""
     server = subprocess.Popen(
-        [*program, "listen", "--until-input", "--status", "127.0.0.1:0", *options, "127.0.0.1:0", "a", "b"],
+        [*program, "listen", "--log", "off", "--until-input", "--status", "127.0.0.1:0", *options, "127.0.0.1:0", "a", "b"],
         stdin=subprocess.PIPE,
         stdout=subprocess.PIPE,
         stderr=subprocess.PIPE,
@@ -86,6 +92,91 @@ def fresh(status):
     return json.loads(body), began, time.monotonic()
 
 
+def unescaped(value):
+    """The text that a label's value stands for."""
+    return re.sub(r"\\(.)", lambda escape: {"n": "\n"}.get(escape[1], escape[1]), value)
+
+
+def parsed(text):
+    """The kinds of the metrics, by their names, and their samples, by the names with the labels."""
+    assert text.endswith("\n")
+    kinds, samples, helped = {}, {}, None
+    for line in text[:-1].split("\n"):
+        if line.startswith("# HELP "):
+            _, _, helped, words = line.split(" ", 3)
+            assert re.fullmatch(METRIC, helped) and words and helped not in kinds, line
+        elif line.startswith("# TYPE "):
+            _, _, name, kind = line.split(" ")
+            assert name == helped and kind in ("counter", "gauge"), line
+            kinds[name] = kind
+        else:
+            sample = SAMPLE.fullmatch(line)
+            # The samples of a metric stand together, behind its two lines.
+            assert sample and sample[1] == helped and helped in kinds, line
+            labels = {name: unescaped(value) for name, value in re.findall(LABEL, sample[2] or "")}
+            key = (sample[1], *sorted(labels.items()))
+            assert key not in samples, line
+            samples[key] = int(sample[0].rsplit(" ", 1)[1])
+    for name, kind in kinds.items():
+        assert name.startswith("jsp_") and name.endswith("_total") == (kind == "counter"), name
+    return kinds, samples
+
+
+def metrics(status):
+    code, headers, body = answer(status, "GET", "/metrics")
+    assert (code, headers["content-type"]) == (200, "text/plain; version=0.0.4; charset=utf-8"), (code, headers)
+    return parsed(body.decode())
+
+
+def samples_of(shown):
+    """The samples that tell the same as the JSON."""
+    usage = shown["usage"]
+    samples = {
+        ("jsp_info", ("version", shown["version"])): 1,
+        ("jsp_uptime_seconds",): shown["uptime_ms"] // 1000,
+        ("jsp_era",): shown["era"],
+        ("jsp_eras_ended_total",): shown["seals"],
+        ("jsp_connections",): shown["connections"],
+        ("jsp_connections_opened_total",): usage["connections_total"],
+        ("jsp_connections_peak",): usage["connections_peak"],
+        ("jsp_connections_limit",): usage["connections_limit"],
+        ("jsp_requests_total",): shown["requests"],
+        ("jsp_answers_total",): shown["answers"],
+        ("jsp_transactions",): shown["transactions"]["living"],
+        ("jsp_transactions_voting",): shown["transactions"]["voting"],
+        ("jsp_space_entries_limit",): usage["rows_limit"],
+    }
+    if usage["memory_bytes"] is not None:
+        samples["jsp_resident_memory_bytes",] = usage["memory_bytes"]
+    for refusal in shown["refusals"]:
+        key = ("jsp_refusals_total", ("name", refusal["name"]), ("number", str(refusal["number"])))
+        samples[key] = refusal["count"]
+    for one in shown["spaces"]:
+        for name, member in (
+            ("entries", "rows"),
+            ("waiting_requests", "waiting"),
+            ("registrations", "registrations"),
+            ("match_sets", "match_sets"),
+        ):
+            samples[f"jsp_space_{name}", ("space", one["name"])] = one[member]
+    return samples
+
+
+def same_in_metrics(status):
+    """The metrics tell what the JSON tells, and no counter falls meanwhile."""
+    kinds, before = metrics(status)
+    # Both are answered from one status, unless that grew too old between them.
+    for _ in range(5):
+        shown = fresh(status)[0]
+        _, samples = metrics(status)
+        if samples == samples_of(shown):
+            break
+    else:
+        raise AssertionError((samples, samples_of(shown)))
+    for key, number in before.items():
+        assert kinds[key[0]] != "counter" or number <= samples[key], key
+
+
 def space(name, rows=0, waiting=0, registrations=0, match_sets=0):
     return {
         "name": name,
@@ -101,11 +192,13 @@ NOTHING = {
     "era": 1,
     "seals": 0,
     "connections": 0,
+    "connection_list": [],
     "requests": 0,
     "answers": 0,
     "refusals": [],
     "transactions": {"living": 0, "voting": 0},
     "spaces": [space("a"), space("b")],
+    "usage": {"connections_limit": 256, "connections_peak": 0, "connections_total": 0, "rows_limit": 65536},
 }
 
 # What `asks` leaves. The hello of each Client is a request too.
@@ -114,13 +207,25 @@ ASKED = {
     "connections": 2,  # the third has left
     "requests": 31,
     "answers": 33,  # 3 requests wait, and there were 5 events
-    "refusals": [{"number": number, "count": count} for number, count in ((1, 1), (5, 1), (11, 1), (12, 2))],
+    "refusals": [
+        {"number": number, "name": NAMES[number], "count": count}
+        for number, count in ((1, 1), (5, 1), (11, 1), (12, 2))
+    ],
     "transactions": {"living": 1, "voting": 0},
     "spaces": [
         space("a", rows=3, waiting=1, registrations=1, match_sets=1),
         space("b", rows=5, waiting=2, registrations=2),
     ],
+    "usage": {"connections_limit": 256, "connections_peak": 3, "connections_total": 3, "rows_limit": 65536},
 }
+
+
+def listed(*clients):
+    """The connections as they are listed: of each client what it asked, and how much of it waits."""
+    return [
+        {"address": "%s:%d" % client.socket.getsockname(), "number": number, "requests": requests, "waiting": waiting}
+        for number, (client, requests, waiting) in enumerate(clients, 1)
+    ]
 
 
 def is_refused(client, number, op, **keys):
@@ -178,13 +283,51 @@ def asks(address, one, two):
         assert client.spaces() == ["a", "b"]  # 31, so those before it wait by now
 
 
-def is_shown(status, wanted, least, began):
+def is_shown(server, status, wanted, least, began):
     """The numbers are these, and the time is that since the server began, after `began` and before `least`."""
     shown, before, after = fresh(status)
     uptime = shown.pop("uptime_ms")
+    shown["usage"].pop("per_10_seconds")
+    for connection in shown["connection_list"]:
+        assert 0 <= connection.pop("open_ms") <= uptime, shown
+    resident = int(Path(f"/proc/{server.pid}/statm").read_text().split()[1]) * 4096
+    assert resident / 2 < shown["usage"].pop("memory_bytes") < resident * 2, resident
     assert shown == wanted, (shown, wanted)
     # The server's clock tells whole milliseconds.
     assert 1000 * (before - least) - 2 < uptime < 1000 * (after - began) + 2, uptime
+
+
+def is_printed(program, status):
+    """`jsp client --status` prints what is shown, and says so where nothing is."""
+    done = asked_by_client(program, status)
+    assert (done.returncode, done.stderr) == (0, b""), done
+    printed = json.loads(done.stdout)
+    assert done.stdout.count(b"\n") > len(printed), done
+    assert {name: printed[name] for name in ("requests", "spaces")} == {name: ASKED[name] for name in ("requests", "spaces")}
+    with socket.socket() as nobody:
+        nobody.bind(("127.0.0.1", 0))
+        done = asked_by_client(program, nobody.getsockname())
+        assert done.returncode == 1 and done.stderr.startswith(b"jsp: cannot ask for a status: "), done
+    with socket.create_server(("127.0.0.1", 0)) as listener:
+        for said in (b"", b"HTTP/1.1 404 Not Found\r\n\r\n{}", b"HTTP/1.1 200 OK\r\n\r\n{", b'HTTP/1.1 200 OK\r\n\r\n"\x7f"'):
+            answering = threading.Thread(target=says_once, args=(listener, said))
+            answering.start()
+            done = asked_by_client(program, listener.getsockname())
+            answering.join()
+            assert (done.returncode, done.stdout) == (1, b""), (said, done)
+            assert done.stderr == b"jsp: what answered shows no status\n", (said, done)
+
+
+def asked_by_client(program, status):
+    host, port = status
+    return subprocess.run([*program, "client", "--status", f"{host}:{port}"], capture_output=True, timeout=SECONDS)
+
+
+def says_once(listener, said):
+    """Answers one connection, once it has asked."""
+    with listener.accept()[0] as stream:
+        stream.recv(4096)
+        stream.sendall(said)
 
 
 def speaks_http(status):
@@ -193,14 +336,20 @@ def speaks_http(status):
     kept = {"connection": "close", "cache-control": "no-store", "content-type": "text/html; charset=utf-8"}
     assert (code, headers) == (200, {**kept, "content-length": str(len(page))}), (code, headers)
     rows = re.findall("<tr>(.*)</tr>", page.decode())
-    for cells in ("a3111", "b5220"):
+    refused = (("BadJson", 1, 1), ("UnknownLease", 12, 2))
+    for cells in ("a3111", "b5220", *refused, ("connections so far", 3), ("most connections at once", 3)):
         assert "".join(f"<td>{cell}</td>" for cell in cells) in rows, rows
-    for path, kind in (("/", kept["content-type"]), ("/status.json", "application/json")):
+    stands_alone(page.decode())
+    for path, kind in (
+        ("/", kept["content-type"]),
+        ("/status.json", "application/json"),
+        ("/metrics", "text/plain; version=0.0.4; charset=utf-8"),
+    ):
         code, headers, body = answer(status, "HEAD", path)
         assert int(headers.pop("content-length")) > 0
         assert (code, headers, body) == (200, {**kept, "content-type": kind}, b""), (code, headers, body)
 
-    for path in ("/status", "/index.html", "/status.json/"):
+    for path in ("/status", "/index.html", "/status.json/", "/metrics/"):
         code, headers, body = answer(status, "GET", path)
         assert (code, headers, body) == (404, {"connection": "close", "content-length": "0"}, b""), (code, headers)
     for method, path in (("POST", "/"), ("DELETE", "/status.json"), ("PUT", "/status")):
@@ -217,6 +366,20 @@ def speaks_http(status):
     ):
         said = received(status, garbage)
         assert said.startswith(b"HTTP/1.1 400 "), (garbage, said)
+
+
+def stands_alone(page):
+    """The page has no scripts and asks for nothing from elsewhere, and draws numbers in its drawings."""
+    for markup in ("<script", "javascript:", "<link", "<img", "<iframe", "src=", "href=", "url(", "@import", "//"):
+        assert markup not in page, markup
+    assert not re.search(r"\son[a-z]+=", page)
+    drawings = re.findall(r'<figcaption>(.*), at most ([0-9.]+)</figcaption>\n<svg [^<]*<polyline points="([0-9, ]*)"/>', page)
+    rates = [f"{what} a second" for what in ("requests", "answers", "refusals")]
+    assert [name for name, _, _ in drawings] == [*rates, "entries in a", "waiting in a", "entries in b", "waiting in b"]
+    for name, _, points in drawings:
+        for point in points.split():
+            x, y = map(int, point.split(","))
+            assert x <= 300 and y <= 60, (name, point)
 
 
 def is_served(status):
@@ -309,15 +472,18 @@ def shows_what_was_asked(program):
     with serving(program) as (server, address, status):
         assert received(status, ASKS).startswith(b"HTTP/1.1 200 ")
         least = time.monotonic()
-        is_shown(status, NOTHING, least, began)
+        is_shown(server, status, NOTHING, least, began)
         with Client(*address) as one, Client(*address) as two:
             asks(address, one, two)
-            is_shown(status, ASKED, least, began)
+            asked = {**ASKED, "connection_list": listed((one, 11, 1), (two, 18, 2))}
+            is_shown(server, status, asked, least, began)
+            is_printed(program, status)
+            same_in_metrics(status)
             speaks_http(status)
             bears_bad_connections(status)
             waits_for_nobody(status)
             # None of these was a connection, a request or an answer of the server's.
-            is_shown(status, ASKED, least, began)
+            is_shown(server, status, asked, least, began)
             # The end waits for nobody who looks at the status.
             with socket.create_connection(status, SECONDS):
                 ends(server, b"jsp: compared 3 lines\n")
@@ -339,5 +505,32 @@ def shows_eras(program):
         ends(server, b"jsp: not compared: an era was sealed\n")
 
 
+def shows_rates(program):
+    """300 requests in a moment, of which 100 are refused, are in the rates of the ten seconds behind them and in what is
+    drawn, and not in the rates a quarter of a minute later."""
+    with serving(program) as (server, address, status):
+        with Client(*address) as jsp:
+            jsp.declare("Job", k="int")
+            for number in range(100):
+                jsp.write("a", entry("Job", k=number), lease=LONGEST)
+                jsp.spaces()
+                is_refused(jsp, 12, "cancel", lease=2**40)
+            rates = fresh(status)[0]["usage"]["per_10_seconds"]
+            # It is 302 in at most 12.5 seconds, and in no less than the second that the status took.
+            assert 241 <= rates["requests"] <= 3020 and rates["answers"] == rates["requests"], rates
+            assert 79 <= rates["refusals"] <= 1000, rates
+            time.sleep(16)
+            shown = fresh(status)[0]
+            assert shown["usage"]["per_10_seconds"] == {"requests": 0, "answers": 0, "refusals": 0}, shown
+            page = answer(status, "GET", "/")[2].decode()
+            assert "<td>requests a second</td><td>0.0</td>" in page
+            drawn = dict(re.findall(r"<figcaption>(.*), at most ([0-9.]+)</figcaption>", page))
+            # 302 in the 5 seconds between two samples, or in two such times.
+            assert float(drawn["requests a second"]) >= 25 and drawn["entries in a"] == "100", drawn
+            assert float(drawn["refusals a second"]) >= 8 and drawn["waiting in a"] == "0", drawn
+        ends(server, b"jsp: compared 1 lines\n")
+
+
 shows_what_was_asked(sys.argv[1:])
 shows_eras(sys.argv[1:])
+shows_rates(sys.argv[1:])
