@@ -1,5 +1,7 @@
 -- A history that its lines show to be right.
-use Rattle.std.proofs.Common.{◌≡◌, ℕ, ◌+◌, ◌<◌, Bool, List, ◌++◌, length, filter, take, get_or, cond, ap, sym, ◌∙◌, subst, inl, inr}
+use Rattle.std.proofs.Common.{◌≡◌, ℕ, ◌+◌, ◌<◌, ◌≤◌, Bool, List, ◌++◌, length, filter, take, drop, get_or, cond, ap, sym, ◌∙◌, subst, inl, inr, arith, length-append}
+use Rattle.std.proofs.lemmas.List.{take-append-drop}
+use Rattle.std.proofs.lemmas.List.Elements.{filter-append}
 use Rattle.std.proofs.lemmas.List.Filters.{length-filter_more}
 use Rattle.jsp_model.specs.declared.state.State.{State}
 use Rattle.jsp_model.specs.declared.step.Step.{Step}
@@ -27,7 +29,7 @@ is_line s st steps line asks writes = record {
     | inr more ↦ elim more [ inl itself ↦ inr (inl (record { closed = itself.0; not_shut = itself.1 })) | inr cut ↦ inr (inr cut) ]
   ];
   written = writes.begins;
-  all_written = writes.all;
+  all_written = writes.all_written;
   ended = asks.ended;
   noted = asks.noted;
 }
@@ -66,3 +68,10 @@ pub opened_more : (steps : List Step) (i : ℕ) (x : Step) (b : Bool) → i < le
     → length (filter opens (take (i + 1) steps)) ≡ length (filter opens (take i steps)) + cond b 1 0
 opened_more steps i x b lt at is =
     length-filter_more opens steps i x lt ∙ ap (λ c. length (filter opens (take i steps)) + cond c 1 0) (ap opens (sym at) ∙ sym is)
+
+-- the first steps open no more than all
+pub opened_first : (steps : List Step) (i : ℕ) → length (filter opens (take i steps)) ≤ length (filter opens steps)
+opened_first steps i =
+    let parts : filter opens steps ≡ filter opens (take i steps) ++ filter opens (drop i steps) =
+    ap (filter opens) (sym (take-append-drop i steps)) ∙ filter-append opens (take i steps) (drop i steps) in
+    omega (arith, ap length parts, length-append (filter opens (take i steps)) (filter opens (drop i steps)))

@@ -1,7 +1,8 @@
 -- What the bytes of a line say beyond what it gave.
-use Rattle.std.proofs.Common.{◌≡◌, ℕ, ◌+◌, Bool, true, false, List, [], ◌∷◌, ◌++◌, length, replicate, drop, flat_map, eqb, refl, ap, sym, ◌∙◌, subst, inl, inr, append-nil, append_assoc, drop_at}
+use Rattle.std.proofs.Common.{◌≡◌, ◌≢◌, ℕ, ◌+◌, Bool, true, false, List, [], ◌∷◌, ◌++◌, length, replicate, drop, flat_map, eqb, refl, ap, sym, ◌∙◌, subst, inl, inr, append-nil, append_assoc, drop_at}
 use Rattle.std.specs.Prelude.{◌||◌, None, if◌then◌else◌}
 use Rattle.std.proofs.Math.Bool.{or-false}
+use Rattle.std.proofs.lemmas.Bool.{cases_Bool}
 use Rattle.std.proofs.lemmas.List.{get_or-drop}
 use Rattle.std.proofs.lemmas.List.Folds.{list_any-append}
 use Rattle.jsp_wire.specs.declared.ask.Version.{Version}
@@ -10,16 +11,19 @@ use Rattle.jsp_frame.specs.Stream.{frame_of, HasNoFrame}
 use Rattle.jsp_frame.specs.Reading.{EndsIn}
 use Rattle.jsp_frame.proofs.Readings.{AreBytes}
 use Rattle.jsp_reply.specs.declared.refusal.Refusal.TheVariants.{TooLong}
+use Rattle.jsp_model.specs.declared.state.State.{State}
 use Rattle.jsp_model.specs.declared.step.Step.{Step}
 use Rattle.jsp_model.specs.declared.step.Step.TheVariants as step
 use Rattle.jsp_drive.specs.Versions.{longest, version_behind, heard_each, Reads}
 use Rattle.jsp_drive.specs.Line.{Unheard, IsOpen}
+use Rattle.jsp_drive.specs.Streams.{requests_of}
 use Rattle.jsp_drive.specs.Giving.{heard_all, Gave, GaveAll}
 use Rattle.jsp_drive.proofs.Splitting.{version_behind-append, heard_each-append, SplitsInto-join}
 use Rattle.jsp_drive.proofs.Readings.{Reads-exists}
 use Rattle.jsp_closing.specs.Asking.{SaysMore}
 use Rattle.jsp_closing.specs.Lines.{shuts, was_shut}
-use Rattle.jsp_closing.specs.Leaving.{Marks, TellShut}
+use Rattle.jsp_closing.specs.declared.closed.LineReport.{LineReport}
+use Rattle.jsp_closing.specs.Leaving.{AsksIn, Marks, MayLeave, TellShut}
 use Rattle.jsp_closing.proofs.Places.{at_replicate}
 
 abbrev one : Version
@@ -99,3 +103,17 @@ pub tell_other : (flags : List Bool) (steps : List Step) (x : Step) → ((s : �
 tell_other flags steps x other tell i flag at =
     tell i flag at ∙ sym (or-false (was_shut (i + 1) steps)) ∙ ap (λ b. was_shut (i + 1) steps || b) (sym (or-false (shuts (i + 1) x) ∙ shuts_none x other (i + 1)))
     ∙ sym (list_any-append (shuts (i + 1)) steps (x ∷ []))
+
+-- ---- what a line may leave
+
+-- what a line may leave that asks in the steps
+pub may_leave : (s : ℕ) (steps : List Step) (after : State) (shut more : Bool) (line : LineReport) → shut ≡ was_shut s steps → AsksIn s steps after line
+    → ((left : List Step) (too_long : Bool) → GaveAll s line.read.items (requests_of s steps ++ left) too_long → more ≡ true → left ≢ []) → MayLeave s shut after line more
+may_leave s steps after shut more line is a only sound =
+    elim (a.may_leave sound) [
+      | inl none ↦ inl (elim (cases_Bool more) [
+        | inl some ↦ absurd (only a.says.left a.says.too_long a.says.says some (a.says.nothing none))
+        | inr none' ↦ none'
+      ])
+      | inr some ↦ elim some [ inl itself ↦ inr (inl (itself.0, is ∙ itself.1)) | inr cut ↦ inr (inr (cut.cut, (cut.by_house, is ∙ cut.shut))) ]
+    ]

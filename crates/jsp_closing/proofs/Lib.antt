@@ -1,5 +1,12 @@
 mod Places
+mod Denying
 mod Rereading
+mod Continuing
+mod Histories
+mod Numbered
+mod Within
 mod Left
 mod Tallies
+mod Ordering
 mod Ending
+mod Whole

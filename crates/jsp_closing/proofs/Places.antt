@@ -1,9 +1,10 @@
 -- What stands at a place of a list.
-use Rattle.std.proofs.Common.{◌≡◌, ◌≢◌, ℕ, ◌+◌, ◌<◌, ◌⊎◌, List, [], ◌∷◌, ◌++◌, length, take, get_or, replicate, zero, suc, refl, ap, sym, ◌∙◌, subst, inl, inr, arith}
+use Rattle.std.proofs.Common.{◌≡◌, ◌≢◌, ℕ, ◌+◌, ◌<◌, ◌⊎◌, List, [], ◌∷◌, ◌++◌, length, take, drop, get_or, replicate, zero, suc, refl, ap, sym, ◌∙◌, subst, inl, inr, arith, append_assoc}
 use Rattle.std.specs.Prelude.{Some, slice_get}
 use Rattle.std.proofs.Math.ListN.{set}
 use Rattle.std.proofs.lemmas.Option.{slice_get_within, get_or_from_slice_get}
-use Rattle.std.proofs.lemmas.List.{take_more, length-replicate, get_or-replicate}
+use Rattle.std.specs.List.{AllByRecursion}
+use Rattle.std.proofs.lemmas.List.{take_more, take-append-drop, length-replicate, get_or-replicate}
 use borrow.Author.Count.{below_more}
 
 -- where one place is changed, an element is the new one or stood there before
@@ -55,3 +56,19 @@ pub at_replicate : {X : Type 0} → (n i : ℕ) (v y : X) → slice_get (replica
 at_replicate n i v y at =
     let within : i < n = omega (arith, slice_get_within (replicate n v) i y at, length-replicate n v) in
     sym (get_or_from_slice_get (replicate n v) i y v at) ∙ get_or-replicate n i v v within
+
+-- a place within a list has an element
+pub at_within : {X : Type 0} → (xs : List X) (i : ℕ) → i < length xs → (x : X) × (slice_get xs i ≡ Some x)
+at_within [] i within = absurd (omega (arith, within))
+at_within (x ∷ xs) zero within = (x, refl)
+at_within (x ∷ xs) (suc i) within = at_within xs i (omega (arith, within))
+
+-- the first elements, the next one and those behind it
+pub split_next : {X : Type 0} → (xs : List X) (i : ℕ) (x : X) → i < length xs → x ≡ get_or xs i x → xs ≡ take i xs ++ x ∷ drop (i + 1) xs
+split_next xs i x within is =
+    sym (take-append-drop (i + 1) xs) ∙ ap (λ ys. ys ++ drop (i + 1) xs) (take_next xs i x within is) ∙ append_assoc (take i xs) (x ∷ []) (drop (i + 1) xs)
+
+-- what each element has one between two parts has
+pub each_between : {X : Type 0} → (P : X → Type 0) (before after : List X) (x : X) → AllByRecursion P (before ++ x ∷ after) → P x
+each_between P [] after x h = h.0
+each_between P (y ∷ before) after x h = each_between P before after x h.1

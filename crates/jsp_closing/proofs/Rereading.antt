@@ -20,7 +20,7 @@ use Rattle.jsp_closing.specs.declared.closed.LineReport.{LineReport}
 use Rattle.jsp_closing.specs.Asking.{HaveGiven, GivesInput, GiveStep, is_short, has_short_line, asks_short, unasked, unasked_in}
 use Rattle.jsp_closing.proofs.Places.{at_set, at_push}
 
-requests_of-append : (s : ℕ) (xs ys : List Step) → requests_of s (xs ++ ys) ≡ requests_of s xs ++ requests_of s ys
+pub requests_of-append : (s : ℕ) (xs ys : List Step) → requests_of s (xs ++ ys) ≡ requests_of s xs ++ requests_of s ys
 requests_of-append s xs ys = ap (filter (is_request_of s)) (asked_in-append xs ys) ∙ filter-append (is_request_of s) (asked_in xs) (asked_in ys)
 
 -- ---- one step
@@ -96,7 +96,7 @@ pub short_at : (reports : List LineReport) (s : ℕ) (report : LineReport) → (
 short_at reports s report some at = rw (ne_eqb s 0 some) (ap is_short at)
 
 -- a step asks what it asks, whoever it is that is asked
-asks_unasked : (reports : List LineReport) (x : Step) → asks_short reports (unasked x) ≡ asks_short reports x
+pub asks_unasked : (reports : List LineReport) (x : Step) → asks_short reports (unasked x) ≡ asks_short reports x
 asks_unasked reports (step.Ask s asked rows) = refl
 asks_unasked reports (step.Fault s id refusal) = refl
 asks_unasked reports _ = refl

@@ -1,7 +1,7 @@
 -- What was written is matched frame by frame.
-use Rattle.std.proofs.Common.{◌≡◌, ℕ, ◌+◌, ◌<◌, ◌≤◌, Bool, true, false, List, [], ◌∷◌, ◌++◌, length, take, drop, eqb, refl, ap, sym, ◌∙◌, inl, inr, arith, append-nil, append_assoc, length-append, drop_at}
+use Rattle.std.proofs.Common.{◌≡◌, ℕ, ◌+◌, ◌<◌, ◌≤◌, Bool, true, false, List, [], ◌∷◌, ◌++◌, length, take, drop, eqb, refl, ap, sym, ◌∙◌, subst, inl, inr, arith, append-nil, append_assoc, length-append, drop_at}
 use Rattle.std.specs.Prelude.{filter, map, Some, slice_get}
-use Rattle.std.proofs.lemmas.List.{length-set, take-append-drop, length-take-le, drop_all, nil_from_length, map-append}
+use Rattle.std.proofs.lemmas.List.{append_cancel_left, length-set, take-append-drop, take-append-le, length-take-le, drop_all, nil_from_length, map-append}
 use Rattle.std.proofs.lemmas.List.Elements.{filter-append}
 use Rattle.std.proofs.lemmas.Grind.{flat_map-append}
 use Rattle.std.proofs.lemmas.Bool.{cases_lt, eq-eqb, ne_eqb}
@@ -11,7 +11,7 @@ use Rattle.jsp_model.specs.Answers.{Saying}
 use Rattle.jsp_drive.specs.Heard.{framed}
 use Rattle.jsp_closing.specs.declared.closed.LineReport.{LineReport}
 use Rattle.jsp_drive.specs.Bytes.{frames}
-use Rattle.jsp_closing.specs.Writing.{answers_to, Matches, AreMatched, IsWritten}
+use Rattle.jsp_closing.specs.Writing.{answers_to, AreBytesOf, AreMatched, AreWritten, IsWritten, Matches}
 use Rattle.jsp_closing.proofs.Places.{at_set}
 
 -- ---- one line
@@ -133,8 +133,77 @@ is_written s said report n h all =
     let front : report.written.items ≡ h.front = h.written_is ∙ ap (λ xs. h.front ++ xs) none ∙ append-nil h.front in
     record {
       begins = (h.missing, ap (λ xs. xs ++ h.missing) front ∙ sym h.all_is);
-      all = λ sound. elim h.ended [
+      all_written = λ sound. elim h.ended [
         | inl whole ↦ front ∙ sym (append-nil h.front) ∙ ap (λ xs. h.front ++ xs) (sym whole) ∙ sym h.all_is
         | inr broken ↦ absurd (cc (sound, broken.1))
       ];
     }
+
+-- ---- where something differs
+
+behind : (failed : Bool) (written all : List ℕ) (n : ℕ) (h : Matches failed written all n) → drop n written ≡ h.unmatched
+behind failed written all n h = rw h.written_is (drop_at h.front h.unmatched n (sym h.count))
+
+-- no more is matched than was written
+pub matched_most : (failed : Bool) (written all : List ℕ) (n : ℕ) → Matches failed written all n → n ≤ length written
+matched_most failed written all n h =
+    let counts : length written ≡ length h.front + length h.unmatched = ap length h.written_is ∙ length-append h.front h.unmatched in
+    omega (arith, h.count, counts)
+
+-- the bytes behind those that are matched are those of the next frame, as far as both go
+pub same_next : (failed : Bool) (written all frame more : List ℕ) (n k : ℕ)
+    → Matches failed written all n → AreBytesOf failed written (all ++ (frame ++ more)) → k ≤ length frame → k ≤ length (drop n written) → take k (drop n written) ≡ take k frame
+same_next failed written all frame more n k h w within written_in =
+    let rest : drop n written ≡ h.unmatched = behind failed written all n h in
+    let k_in : k ≤ length h.unmatched = omega (arith, written_in, ap length rest) in
+    elim h.ended [
+      | inl none ↦ (
+          let is : all ≡ h.front = h.all_is ∙ ap (λ xs. h.front ++ xs) none ∙ append-nil h.front in
+          let both : h.front ++ (h.unmatched ++ w.begins.0) ≡ h.front ++ (frame ++ more) =
+          sym (append_assoc h.front h.unmatched w.begins.0) ∙ ap (λ xs. xs ++ w.begins.0) (sym h.written_is) ∙ w.begins.1 ∙ ap (λ xs. xs ++ (frame ++ more)) is in
+          let tails : h.unmatched ++ w.begins.0 ≡ frame ++ more = append_cancel_left h.front (h.unmatched ++ w.begins.0) (frame ++ more) both in
+          ap (take k) rest ∙ sym (take-append-le k h.unmatched w.begins.0 k_in) ∙ ap (take k) tails ∙ take-append-le k frame more within)
+      | inr broken ↦ (
+          let zero' : k ≡ 0 = omega (arith, k_in, ap length broken.0) in
+          rw zero' refl)
+    ]
+
+-- where no write failed, the frame was written whole
+pub whole_next : (failed : Bool) (written all frame more : List ℕ) (n : ℕ)
+    → failed ≡ false → Matches failed written all n → AreBytesOf failed written (all ++ (frame ++ more)) → length frame ≤ length (drop n written)
+whole_next failed written all frame more n sound h w =
+    elim h.ended [
+      | inl none ↦ (
+          let is : all ≡ h.front = h.all_is ∙ ap (λ xs. h.front ++ xs) none ∙ append-nil h.front in
+          let both : h.front ++ h.unmatched ≡ h.front ++ (frame ++ more) = sym h.written_is ∙ w.all_written sound ∙ ap (λ xs. xs ++ (frame ++ more)) is in
+          let tails : h.unmatched ≡ frame ++ more = append_cancel_left h.front h.unmatched (frame ++ more) both in
+          omega (arith, ap length tails, length-append frame more, ap length (behind failed written all n h)))
+      | inr broken ↦ absurd (cc (sound, broken.1))
+    ]
+
+-- all that was written is matched by all frames
+pub all_matched : (failed : Bool) (written all : List ℕ) (n : ℕ) → Matches failed written all n → AreBytesOf failed written all → n ≡ length written
+all_matched failed written all n h w =
+    let counts : length written ≡ length h.front + length h.unmatched = ap length h.written_is ∙ length-append h.front h.unmatched in
+    elim h.ended [
+      | inl none ↦ (
+          let is : all ≡ h.front = h.all_is ∙ ap (λ xs. h.front ++ xs) none ∙ append-nil h.front in
+          omega (arith, h.count, counts, ap length w.begins.1, length-append written w.begins.0, ap length is))
+      | inr broken ↦ omega (arith, h.count, counts, ap length broken.0)
+    ]
+
+-- what is said to a session next is the next frame
+pub frames_next : (s : ℕ) (answer : Reply) (said more : List Saying)
+    → frames (answers_to s (said ++ (s, answer) ∷ more)) ≡ frames (answers_to s said) ++ (framed answer ++ frames (answers_to s more))
+frames_next s answer said more =
+    frames_to-append s said ((s, answer) ∷ more) ∙ ap (λ xs. frames (answers_to s said) ++ xs) (rw (eq-eqb s s refl) refl)
+
+-- what its line was written goes on with that frame
+pub written_next : (s place : ℕ) (answer : Reply) (said more : List Saying) (reports : List LineReport) (report : LineReport) (frame : List ℕ)
+    → s ≡ place + 1 → slice_get reports place ≡ Some report → report.is_whole ≡ true → frame ≡ framed answer → AreWritten reports (said ++ (s, answer) ∷ more)
+    → AreBytesOf report.write_failed report.written.items (frames (answers_to (place + 1) said) ++ (frame ++ frames (answers_to (place + 1) more)))
+written_next s place answer said more reports report frame session here whole is h =
+    let w = h place report here whole in
+    subst (λ (bytes : List ℕ). AreBytesOf report.write_failed report.written.items bytes)
+    (ap (λ t. frames (answers_to (place + 1) (said ++ (t, answer) ∷ more))) session ∙ frames_next (place + 1) answer said more
+    ∙ ap (λ f. frames (answers_to (place + 1) said) ++ (f ++ frames (answers_to (place + 1) more))) (sym is)) w

@@ -1,5 +1,5 @@
 -- What lines ask, read again from their bytes. The line at the place i is that of the session i + 1.
-use Rattle.std.specs.Prelude.{◌≡◌, ℕ, ◌+◌, ◌-◌, ◌==◌, ◌&&◌, not, if◌then◌else◌, Bool, true, false, List, [], ◌∷◌, ◌++◌, length, Option, Some, None, slice_get, slice_set}
+use Rattle.std.specs.Prelude.{◌≡◌, ℕ, ◌+◌, ◌-◌, ◌==◌, ◌&&◌, not, if◌then◌else◌, Bool, true, false, List, [], ◌∷◌, ◌++◌, length, map, Option, Some, None, slice_get, slice_set}
 use Rattle.jsp_wire.specs.declared.ask.Request.{Request}
 use Rattle.jsp_wire.specs.declared.ask.Ask.TheVariants.{Bye}
 use Rattle.jsp_reply.specs.declared.refusal.Refusal.TheVariants.{TooLong}
@@ -11,6 +11,7 @@ use Rattle.jsp_drive.specs.Line.{Unheard}
 use Rattle.jsp_drive.specs.Streams.{requests_of}
 use Rattle.jsp_drive.specs.Giving.{Gave, GaveAll, FollowsStream}
 use Rattle.jsp_closing.specs.declared.closed.LineReport.{LineReport}
+use Rattle.jsp_closing.specs.Within.{AskWithin}
 
 -- each line was fed its bytes, and gave for them what its session asks in these steps, if it is whole
 pub record HaveGiven (reports : List LineReport) (lines : List Unheard) (steps : List Step) : Type 0 where
@@ -73,3 +74,36 @@ unasked other = other
 -- the step, but for what is asked in it by a session whose line isn't short
 abbrev pub unasked_in : List LineReport → Step → Step
 unasked_in reports step = if asks_short reports step then step else unasked step
+
+-- ---- a history that the lines ask
+
+-- the session's line has given what its bytes say so far, and they say this next
+pub record HasNext (s : ℕ) (lines : List Unheard) (asked : Step) : Type 0 where
+  pub place : ℕ
+  pub session : s ≡ place + 1
+  pub line : Unheard
+  pub here : slice_get lines place ≡ Some line
+  pub bytes : List ℕ
+  pub before : List Step
+  pub more : List Step
+  pub too_long : Bool
+  pub gave : Gave s bytes before line
+  pub says : GaveAll s bytes (before ++ asked ∷ more) too_long
+
+-- the first step is the second but for what is asked in it, and that is what the session's line gives next
+pub record CanGive (lines : List Unheard) (wanted step : Step) : Type 0 where
+  pub same : unasked wanted ≡ unasked step
+  pub asks : (s : ℕ) (asked : Step) → requests_of s (wanted ∷ []) ≡ asked ∷ [] → HasNext s lines asked
+
+-- so it is where the session's line is whole
+pub record CanAsk (reports : List LineReport) (lines : List Unheard) (wanted step : Step) : Type 0 where
+  pub same : unasked_in reports wanted ≡ unasked_in reports step
+  pub asks : (s : ℕ) (asked : Step) → requests_of s (wanted ∷ []) ≡ asked ∷ [] → has_short_line reports s ≡ false → HasNext s lines asked
+
+-- A history is these steps but for what is asked in it. Each session that asks has a line, and what it asks is what the
+-- line's bytes say, and maybe more, if it is whole.
+pub record CanBe (reports : List LineReport) (history steps : List Step) : Type 0 where
+  pub same : map (unasked_in reports) history ≡ map (unasked_in reports) steps
+  pub within : AskWithin (length reports) history
+  pub asks : (i : ℕ) (report : LineReport) → slice_get reports i ≡ Some report → report.is_whole ≡ true
+      → (left : List Step) × (too_long : Bool) × GaveAll (i + 1) report.read.items (requests_of (i + 1) history ++ left) too_long

@@ -13,7 +13,7 @@ use Rattle.jsp_closing.specs.declared.closed.Closed.{Closed}
 use Rattle.jsp_closing.specs.declared.closed.Closed.TheVariants as closed
 use Rattle.jsp_closing.specs.declared.closed.LineReport.{LineReport}
 use Rattle.jsp_closing.specs.declared.closed.RunFault.{RunFault}
-use Rattle.jsp_closing.specs.declared.closed.RunFault.TheVariants.{Spawn}
+use Rattle.jsp_closing.specs.declared.closed.RunFault.TheVariants.{Audit, NoMemory, Spawn}
 use Rattle.jsp_closing.specs.Lines.{AreLines}
 
 -- no transaction votes, and every space is quiet
@@ -58,14 +58,21 @@ abbrev pub Closes : List (List ℕ) → Closed → Type 0
 Closes spaces (closed.Whole steps lines) = IsWhole spaces steps.items lines.items
 Closes spaces (closed.Sealed steps) = IsLast spaces steps.items
 
--- What is answered of an era and of what lines read and wrote. Where no era was sealed: the lines as they were given, in
--- another order, and its steps, but for what is asked in them, which is read again from the lines; where a line isn't whole
--- its session's steps are the era's. Else the era itself.
+-- These may be the steps of the era, in which no era was sealed, and its lines: the lines as they were given, in another
+-- order, and the era's steps, but for what is asked in them, which is read again from the lines. Where a line isn't whole
+-- its session's steps are the era's.
+abbrev pub IsHistoryOf : Era → List LineReport → List Step → List LineReport → Type 0
+IsHistoryOf era reports steps lines =
+    (era.is_sealed ≡ false) × IsPermutation reports lines × (map (unasked_in lines) steps ≡ map (unasked_in lines) era.steps.items)
+
+-- What is answered of an era and of what lines read and wrote: where no era was sealed its history, else the era itself.
 abbrev pub IsOf : Era → List LineReport → Closed → Type 0
-IsOf era reports (closed.Whole steps lines) = (era.is_sealed ≡ false) × IsPermutation reports lines.items × (map (unasked_in lines.items) steps.items ≡ map (unasked_in lines.items) era.steps.items)
+IsOf era reports (closed.Whole steps lines) = IsHistoryOf era reports steps.items lines.items
 IsOf era reports (closed.Sealed steps) = (era.is_sealed ≡ true) × (steps ≡ era.steps)
 
--- a growth was refused, or what should be the same differs
-abbrev pub IsNoSpawn : RunFault → Type 0
-IsNoSpawn Spawn = ⊥
-IsNoSpawn _ = Unit {0}
+-- What should be the same differs: no history of the era and its lines is whole. Or a growth was refused, which says
+-- nothing of them.
+abbrev pub IsNotWhole : List (List ℕ) → Era → List LineReport → RunFault → Type 0
+IsNotWhole spaces era reports Audit = (steps : List Step) (lines : List LineReport) → IsHistoryOf era reports steps lines → IsWhole spaces steps lines → ⊥
+IsNotWhole spaces era reports NoMemory = Unit {0}
+IsNotWhole spaces era reports Spawn = ⊥

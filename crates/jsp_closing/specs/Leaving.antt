@@ -4,6 +4,7 @@ use Rattle.jsp_model.specs.declared.state.State.{State}
 use Rattle.jsp_model.specs.declared.step.Step.{Step}
 use Rattle.jsp_model.specs.Lookup.{is_open}
 use Rattle.jsp_drive.specs.Streams.{requests_of}
+use Rattle.jsp_drive.specs.declared.ended.Ended.TheVariants.{Cut}
 use Rattle.jsp_closing.specs.declared.closed.LineReport.{LineReport}
 use Rattle.jsp_closing.specs.Asking.{SaysMore}
 use Rattle.jsp_closing.specs.Lines.{was_shut, MayEnd, WasCut}
@@ -16,6 +17,13 @@ TellShut flags steps = (i : ℕ) (flag : Bool) → slice_get flags i ≡ Some fl
 pub record Marks (s : ℕ) (old new : List Bool) : Type 0 where
   pub count : length new ≡ length old
   pub each : (i : ℕ) (flag : Bool) → slice_get new i ≡ Some flag → (before : Bool) × (slice_get old i ≡ Some before) × (flag ≡ (before || s == i + 1))
+
+-- A line may say more than what was asked only where a write failed, where the session is closed and nobody shut it, or
+-- where it was cut since the house had shut its session.
+abbrev pub MayLeave : ℕ → Bool → State → LineReport → Bool → Type 0
+MayLeave s shut after line more =
+    line.write_failed ≡ false
+    → (more ≡ false) ⊎ (((is_open after s ≡ false) × (shut ≡ false)) ⊎ ((line.ended ≡ Cut) × ((line.shut_by_house ≡ true) × (shut ≡ true))))
 
 -- The line's bytes say what its session asks in the steps. They say more only where a write failed, where the session is
 -- closed after them and nobody shut it, or where the line was cut. What the house noted of it is in the steps.

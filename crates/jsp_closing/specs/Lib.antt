@@ -1,3 +1,5 @@
+pub mod Faults
+pub mod Within
 pub mod Asking
 pub mod Writing
 pub mod Lines

@@ -25,10 +25,14 @@ pub record AreMatched (reports : List LineReport) (matched : List ℕ) (said : L
   pub each : (i : ℕ) (report : LineReport) (n : ℕ) → slice_get reports i ≡ Some report → slice_get matched i ≡ Some n → report.is_whole ≡ true
       → Matches report.write_failed report.written.items (frames (answers_to (i + 1) said)) n
 
+-- the bytes written are all that were to be, or where a write failed a first part of them
+pub record AreBytesOf (write_failed : Bool) (written all : List ℕ) : Type 0 where
+  pub begins : Begins written all
+  pub all_written : write_failed ≡ false → written ≡ all
+
 -- what the line was written is the frames of what was said to the session, or where a write failed a first part of them
-pub record IsWritten (s : ℕ) (said : List Saying) (line : LineReport) : Type 0 where
-  pub begins : Begins line.written.items (frames (answers_to s said))
-  pub all : line.write_failed ≡ false → line.written.items ≡ frames (answers_to s said)
+abbrev pub IsWritten : ℕ → List Saying → LineReport → Type 0
+IsWritten s said line = AreBytesOf line.write_failed line.written.items (frames (answers_to s said))
 
 -- so it is, if the line is whole
 abbrev pub MayBeWritten : ℕ → List Saying → LineReport → Type 0

@@ -1,10 +1,13 @@
 //! What a history's sessions ask, read again from the bytes of their lines.
-ghost use Rattle.std.specs.Prelude.{◌≡◌, ◌++◌, ◌∷◌, ℕ, List, [], None, true, map, IfOk, OnOk};
+ghost use Rattle.std.specs.Prelude.{◌≡◌, ◌++◌, ◌∷◌, ℕ, List, [], None, map, IfOk, IfErr, OnOk};
 ghost use Rattle.jsp_reply.specs.declared.refusal.Refusal.TheVariants.{TooLong};
 ghost use Rattle.jsp_model.specs.declared.step.Step.{Step};
 ghost use Rattle.jsp_model.specs.declared.step.Step.TheVariants as step;
+ghost use Rattle.jsp_model.specs.House.{step_of};
+ghost use Rattle.jsp_drive.specs.Line.{input_of};
 ghost use Rattle.jsp_drive.specs.Giving.{Gave};
-ghost use Rattle.jsp_closing.specs.Asking.{HaveGiven, GivesInput, GiveStep, anything, asks_short, has_short_line, unasked, unasked_in};
+ghost use Rattle.jsp_closing.specs.Faults.{Denies};
+ghost use Rattle.jsp_closing.specs.Asking.{HaveGiven, GivesInput, GiveStep, HasNext, CanGive, CanAsk, CanBe, anything, asks_short, has_short_line, unasked, unasked_in};
 
 use crate::closed::{Fault, LineReport};
 use jsp_drive::{Line, LineInput, Next};
@@ -44,6 +47,9 @@ pub(crate) fn ask_again(
     requires { HaveGiven reports.now lines.old.items [] }
     ensures gave { IfOk result (λ asked. HaveGiven reports.now lines.new.items asked.items) }
     ensures same { IfOk result (λ asked. map (unasked_in reports.now) asked.items ≡ map (unasked_in reports.now) steps.items) }
+    // No other history can be that of the lines, and where they differ none can.
+    ensures only { IfOk result (λ asked. (history : List Step) → CanBe reports.now history steps.items → history ≡ asked.items) }
+    ensures err { IfErr result (λ e. Denies e ((history : List Step) × CanBe reports.now history steps.items)) }
 {
     let mut scratch = Scratch::new(alloc);
     let mut asked = Vec::new(alloc);
@@ -64,6 +70,8 @@ fn next_step(
     ensures gave { IfOk result (λ again. (steps : List Step) → HaveGiven reports.now lines.old.items steps
         → HaveGiven reports.now lines.new.items (steps ++ again ∷ [])) }
     ensures same { IfOk result (λ again. unasked_in reports.now again ≡ unasked_in reports.now step) }
+    ensures only { IfOk result (λ again. (wanted : Step) → CanAsk reports.now lines.old.items wanted step → wanted ≡ again) }
+    ensures err { IfErr result (λ e. Denies e ((wanted : Step) × CanAsk reports.now lines.old.items wanted step)) }
 {
     if asks_short(reports, &step) {
         return Ok(step);
@@ -107,6 +115,8 @@ fn add_step(steps: &mut Vec<Step>, step: Step) -> Result<(), NoMemory>
 fn step_again(lines: &mut Vec<Line>, scratch: &mut Scratch, step: Step) -> Result<Step, Fault>
     ensures gave { IfOk result (λ again. GiveStep again lines.old.items lines.new.items) }
     ensures same { IfOk result (λ again. unasked again ≡ unasked step) }
+    ensures only { IfOk result (λ again. (wanted : Step) → CanGive lines.old.items wanted step → wanted ≡ again) }
+    ensures err { IfErr result (λ e. Denies e ((wanted : Step) × CanGive lines.old.items wanted step)) }
 {
     match step {
         Step::Ask {
@@ -131,6 +141,8 @@ fn request_again(
 ) -> Result<Step, Fault>
     ensures gave { IfOk result (λ again. GiveStep again lines.old.items lines.new.items) }
     ensures same { IfOk result (λ again. unasked again ≡ step.Ask session anything rows) }
+    ensures only { IfOk result (λ again. (wanted : Step) → CanGive lines.old.items wanted (step.Ask session anything rows) → wanted ≡ again) }
+    ensures err { IfErr result (λ e. Denies e ((wanted : Step) × CanGive lines.old.items wanted (step.Ask session anything rows))) }
 {
     match next_input(lines, scratch, session)? {
         LineInput::Ask(asked) => Ok(Step::Ask {
@@ -146,6 +158,8 @@ fn request_again(
 fn fault_again(lines: &mut Vec<Line>, scratch: &mut Scratch, session: u64) -> Result<Step, Fault>
     ensures gave { IfOk result (λ again. GiveStep again lines.old.items lines.new.items) }
     ensures same { IfOk result (λ again. unasked again ≡ step.Fault session None TooLong) }
+    ensures only { IfOk result (λ again. (wanted : Step) → CanGive lines.old.items wanted (step.Fault session None TooLong) → wanted ≡ again) }
+    ensures err { IfErr result (λ e. Denies e ((wanted : Step) × CanGive lines.old.items wanted (step.Fault session None TooLong))) }
 {
     match next_input(lines, scratch, session)? {
         LineInput::Fault(id, refusal) => Ok(Step::Fault {
@@ -166,7 +180,9 @@ fn next_input(
     scratch: &mut Scratch,
     session: u64,
 ) -> Result<LineInput, Fault>
-    ensures { IfOk result (GivesInput session lines.old.items lines.new.items) }
+    ensures gives { IfOk result (GivesInput session lines.old.items lines.new.items) }
+    ensures only { IfOk result (λ x. (asked : Step) → HasNext session lines.old.items asked → step_of (input_of session x) ≡ asked) }
+    ensures err { IfErr result (λ e. Denies e ((asked : Step) × HasNext session lines.old.items asked)) }
 {
     if session == 0 || session > lines.len() as u64 {
         return Err(Fault::Differs);

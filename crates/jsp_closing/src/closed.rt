@@ -62,12 +62,23 @@ pub(crate) enum Fault {
 }
 
 impl From<NoMemory> for Fault {
+    ghost use Rattle.std.specs.Prelude.{◌≡◌};
+    ghost use Rattle.jsp_closing.specs.declared.closed.Fault.TheVariants.{NoMemory};
+
+    ghost from_gives = { λ _ fault. fault ≡ NoMemory };
+
     fn from(_e: NoMemory) -> Fault {
         Fault::NoMemory
     }
 }
 
 impl From<ReplayFault> for Fault {
+    ghost use Rattle.std.specs.Prelude.{◌≡◌, ℕ};
+    ghost use Rattle.jsp_audit.specs.declared.replaying.ReplayFault.TheVariants.{Illegal};
+    ghost use Rattle.jsp_closing.specs.declared.closed.Fault.TheVariants.{Differs};
+
+    ghost from_gives = { λ why fault. fault ≡ Differs → (place : ℕ) × (why ≡ Illegal place) };
+
     fn from(e: ReplayFault) -> Fault {
         match e {
             ReplayFault::Illegal(_) => Fault::Differs,

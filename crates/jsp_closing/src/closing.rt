@@ -1,8 +1,12 @@
 //! The end of a history.
-ghost use Rattle.std.specs.Prelude.{◌≡◌, true, length, filter, map, IfOk, IfErr, IsPermutation, OnOk};
+ghost use Rattle.std.specs.Prelude.{◌≡◌, ◌≢◌, List, true, false, length, filter, map, IfOk, IfErr, IsPermutation, OnOk};
+ghost use Rattle.jsp_model.specs.declared.step.Step.{Step};
+ghost use Rattle.jsp_closing.specs.declared.closed.LineReport.{LineReport};
+ghost use Rattle.jsp_closing.specs.Faults.{Denies};
+ghost use Rattle.jsp_closing.specs.Within.{AreTold};
 ghost use Rattle.jsp_closing.specs.Asking.{HaveGiven, unasked_in};
 ghost use Rattle.jsp_closing.specs.Checked.{AreRight};
-ghost use Rattle.jsp_closing.specs.Closing.{Closes, IsNoSpawn, IsOf, IsWhole, RestsAfter, opens};
+ghost use Rattle.jsp_closing.specs.Closing.{Closes, IsNotWhole, IsOf, IsWhole, RestsAfter, opens};
 
 use crate::asking::{ask_again, feed_lines};
 use crate::closed::{Closed, Fault, LineReport, RunFault};
@@ -19,7 +23,8 @@ use std::alloc::Global;
 /// as the history has it. The seed is for the replay, and whoever wrote to the lines shouldn't know
 /// it.
 ///
-/// The answer is `Audit` where they don't, and `NoMemory` where a growth was refused.
+/// The answer is `Audit` only where they don't: no steps that are the history's but for what is
+/// asked in them, and no order of the lines, are whole. It is `NoMemory` where a growth was refused.
 pub fn close(
     alloc: Global,
     config: &Config,
@@ -30,7 +35,7 @@ pub fn close(
     requires { RestsAfter config.now era }
     ensures ok { IfOk result (Closes config.now) }
     ensures same { IfOk result (IsOf era lines.items) }
-    ensures err { IfErr result IsNoSpawn }
+    ensures err { IfErr result (IsNotWhole config.now era lines.items) }
 {
     let Era { steps, is_sealed } = era;
     if is_sealed {
@@ -60,6 +65,8 @@ pub(crate) fn close_whole(
     ensures whole { IfOk result (λ whole. IsWhole config.now whole.steps.items whole.lines.items) }
     ensures lines { IfOk result (λ whole. IsPermutation reports.items whole.lines.items) }
     ensures steps { IfOk result (λ whole. map (unasked_in whole.lines.items) whole.steps.items ≡ map (unasked_in whole.lines.items) steps.items) }
+    ensures err { IfErr result (λ e. (history : List Step) (lines : List LineReport) → IsPermutation reports.items lines
+        → map (unasked_in lines) history ≡ map (unasked_in lines) steps.items → Denies e (IsWhole config.now history lines)) }
 {
     let mut reports = reports;
     reports.sort_by_key(|report| report.session)?;
@@ -90,7 +97,8 @@ fn check_whole(
     seed: u64,
 ) -> Result<(), Fault>
     requires { HaveGiven reports.now lines.old.items steps.now }
-    ensures { OnOk result (IsWhole config.now steps.now reports.now) }
+    ensures ok { OnOk result (IsWhole config.now steps.now reports.now) }
+    ensures err { IfErr result (λ e. Denies e (IsWhole config.now steps.now reports.now)) }
 {
     let replayed = replay(alloc, config, steps, seed)?;
     check_replayed(alloc, &replayed, steps, reports, lines)
@@ -104,7 +112,9 @@ fn check_replayed(
     lines: &mut Vec<Line>,
 ) -> Result<(), Fault>
     requires { HaveGiven reports.now lines.old.items steps.now }
-    ensures { OnOk result (AreRight steps.now reports.now replayed.now.image replayed.now.said.items) }
+    ensures ok { OnOk result (AreRight steps.now reports.now replayed.now.image replayed.now.said.items) }
+    ensures err { IfErr result (λ e. AreTold (length reports.now) replayed.now.said.items
+        → Denies e (AreRight steps.now reports.now replayed.now.image replayed.now.said.items)) }
 {
     let state = replayed.image.state();
     if !is_at_rest(&replayed.image) || state.last_session != reports.len() as u64 {
@@ -120,7 +130,8 @@ fn check_replayed(
 
 // Whether so many sessions were opened.
 fn are_opened(steps: &[Step], count: usize) -> bool
-    ensures { result ≡ true → length (filter opens steps.now) ≡ count }
+    ensures so { result ≡ true → length (filter opens steps.now) ≡ count }
+    ensures not_so { result ≡ false → length (filter opens steps.now) ≢ count }
 {
     let mut left = count;
     for step in steps {

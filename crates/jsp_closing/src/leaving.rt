@@ -1,13 +1,12 @@
 //! What the lines of a history leave unasked.
-ghost use Rattle.std.specs.Prelude.{◌≡◌, ◌⊎◌, ℕ, List, true, false, length, replicate, IfOk, OnOk};
+ghost use Rattle.std.specs.Prelude.{◌≡◌, ◌≢◌, ◌++◌, ℕ, Bool, List, [], true, false, length, replicate, IfOk, IfErr, OnOk};
 ghost use Rattle.jsp_model.specs.declared.step.Step.{Step};
-ghost use Rattle.jsp_model.specs.Lookup.{is_open as has_open};
 ghost use Rattle.jsp_drive.specs.Streams.{requests_of};
-ghost use Rattle.jsp_drive.specs.Giving.{Gave};
-ghost use Rattle.jsp_drive.specs.declared.ended.Ended.TheVariants.{Cut};
+ghost use Rattle.jsp_drive.specs.Giving.{Gave, GaveAll};
+ghost use Rattle.jsp_closing.specs.Faults.{Denies};
 ghost use Rattle.jsp_closing.specs.Lines.{was_shut, MayEnd};
 ghost use Rattle.jsp_closing.specs.Asking.{HaveGiven, SaysMore};
-ghost use Rattle.jsp_closing.specs.Leaving.{AllAsk, Marks, MayAsk, TellShut};
+ghost use Rattle.jsp_closing.specs.Leaving.{AllAsk, Marks, MayAsk, MayLeave, TellShut};
 
 use crate::closed::{Fault, LineReport};
 use jsp_audit::is_open;
@@ -27,7 +26,8 @@ pub(crate) fn check_lines(
     lines: &mut Vec<Line>,
 ) -> Result<(), Fault>
     requires { HaveGiven reports.now lines.old.items steps.now }
-    ensures { OnOk result (AllAsk steps.now state.now reports.now) }
+    ensures ok { OnOk result (AllAsk steps.now state.now reports.now) }
+    ensures err { IfErr result (λ e. Denies e (AllAsk steps.now state.now reports.now)) }
 {
     let shut = shut_sessions(alloc, reports.len(), steps)?;
     for i in 0..reports.len() {
@@ -44,9 +44,12 @@ fn check_line(
     report: &LineReport,
     line: &mut Line,
 ) -> Result<(), Fault>
-    ensures { OnOk result ((steps : List Step) → shut ≡ was_shut session steps
+    ensures ok { OnOk result ((steps : List Step) → shut ≡ was_shut session steps
         → (report.now.is_whole ≡ true → Gave session report.now.read.items (requests_of session steps) line.old)
         → MayAsk session steps state.now report.now) }
+    ensures err { IfErr result (λ e. (steps : List Step) → shut ≡ was_shut session steps
+        → (report.now.is_whole ≡ true → Gave session report.now.read.items (requests_of session steps) line.old)
+        → Denies e (MayAsk session steps state.now report.now)) }
 {
     if report.session != session {
         return Err(Fault::Differs);
@@ -68,8 +71,8 @@ fn check_line(
 
 // Whether a line may say more than what was asked, or doesn't.
 fn may_leave(state: &Core, session: u64, shut: bool, report: &LineReport, more: bool) -> bool
-    ensures { result ≡ true → report.now.write_failed ≡ false
-        → (more ≡ false) ⊎ (((has_open state.now session ≡ false) × (shut ≡ false)) ⊎ ((report.now.ended ≡ Cut) × ((report.now.shut_by_house ≡ true) × (shut ≡ true)))) }
+    ensures so { result ≡ true → MayLeave session shut state.now report.now more }
+    ensures not_so { result ≡ false → MayLeave session shut state.now report.now more → ⊥ }
 {
     if !more || report.write_failed {
         return true;
@@ -83,13 +86,15 @@ fn may_leave(state: &Core, session: u64, shut: bool, report: &LineReport, more: 
 
 // Whether a session was shut of which it is noted that the house shut it.
 fn is_noted_truly(by_house: bool, shut: bool) -> bool
-    ensures { result ≡ true → by_house ≡ true → shut ≡ true }
+    ensures so { result ≡ true → by_house ≡ true → shut ≡ true }
+    ensures not_so { result ≡ false → (by_house ≡ true) × (shut ≡ false) }
 {
     !by_house || shut
 }
 
 fn may_end(ended: Ended, write_failed: bool, by_house: bool) -> bool
-    ensures { result ≡ true → MayEnd ended write_failed by_house }
+    ensures so { result ≡ true → MayEnd ended write_failed by_house }
+    ensures not_so { result ≡ false → MayEnd ended write_failed by_house → ⊥ }
 {
     match ended {
         Ended::Stopped => false,
@@ -100,8 +105,10 @@ fn may_end(ended: Ended, write_failed: bool, by_house: bool) -> bool
 
 // Whether the bytes that the line was fed say more than what it gave.
 fn says_more(line: &mut Line, read: &[u8]) -> Result<bool, NoMemory>
-    ensures { IfOk result (λ more. (s : ℕ) (asked : List Step) → Gave s read.now asked line.old
+    ensures says { IfOk result (λ more. (s : ℕ) (asked : List Step) → Gave s read.now asked line.old
         → SaysMore s read.now asked more) }
+    ensures only { IfOk result (λ more. (s : ℕ) (asked left : List Step) (too_long : Bool) → Gave s read.now asked line.old
+        → GaveAll s read.now (asked ++ left) too_long → more ≡ true → left ≢ []) }
 {
     match line.next()? {
         Next::Input(input) => {

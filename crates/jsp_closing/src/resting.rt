@@ -1,5 +1,5 @@
 //! Whether a history is at rest.
-ghost use Rattle.std.specs.Prelude.{◌≡◌, true};
+ghost use Rattle.std.specs.Prelude.{◌≡◌, true, false};
 ghost use Rattle.std.specs.List.{list_all};
 ghost use Rattle.jsp_model.specs.Quiet.{is_quiet as quiet};
 ghost use Rattle.jsp_model.specs.Settling.{places};
@@ -10,7 +10,8 @@ use jsp_core::LiveImage;
 
 /// Whether no transaction votes, and every space is quiet.
 pub(crate) fn is_at_rest(image: &LiveImage) -> bool
-    ensures { result ≡ true → IsAtRest image.now }
+    ensures so { result ≡ true → IsAtRest image.now }
+    ensures not_so { result ≡ false → IsAtRest image.now → ⊥ }
 {
     image.state().commits.as_slice().is_empty() && are_all_quiet(image)
 }

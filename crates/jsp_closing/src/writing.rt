@@ -1,9 +1,11 @@
 //! What lines were written, compared with the frames of what was said to their sessions.
-ghost use Rattle.std.specs.Prelude.{◌≡◌, ◌++◌, ℕ, List, [], ◌∷◌, true, length, replicate, IfOk, OnOk};
+ghost use Rattle.std.specs.Prelude.{◌≡◌, ◌≢◌, ◌++◌, ℕ, List, [], ◌∷◌, true, false, length, replicate, IfOk, IfErr, OnOk};
 ghost use Rattle.jsp_reply.specs.declared.reply.Reply.{Reply};
 ghost use Rattle.jsp_model.specs.Answers.{Saying};
 ghost use Rattle.jsp_drive.specs.Heard.{framed};
-ghost use Rattle.jsp_closing.specs.Writing.{Matches, AreMatched, AreWritten};
+ghost use Rattle.jsp_closing.specs.Faults.{Denies};
+ghost use Rattle.jsp_closing.specs.Within.{AreTold, IsWithin};
+ghost use Rattle.jsp_closing.specs.Writing.{AreBytesOf, Matches, AreMatched, AreWritten};
 
 use crate::closed::{Fault, LineReport};
 use jsp_drive::encode;
@@ -17,7 +19,8 @@ pub(crate) fn check_written(
     reports: &[LineReport],
     said: &[(u64, Said)],
 ) -> Result<(), Fault>
-    ensures { OnOk result (AreWritten reports.now said.now) }
+    ensures ok { OnOk result (AreWritten reports.now said.now) }
+    ensures err { IfErr result (λ e. Denies e (AreTold (length reports.now) said.now × AreWritten reports.now said.now)) }
 {
     let matched = match_all(alloc, reports, said)?;
     for (i, report) in reports.iter().enumerate() {
@@ -30,7 +33,8 @@ pub(crate) fn check_written(
 
 // Whether so many bytes are all that were written to the line, or it isn't whole.
 fn is_matched(report: &LineReport, matched: usize) -> bool
-    ensures { result ≡ true → report.now.is_whole ≡ true → matched ≡ length report.now.written.items }
+    ensures so { result ≡ true → report.now.is_whole ≡ true → matched ≡ length report.now.written.items }
+    ensures not_so { result ≡ false → (report.now.is_whole ≡ true) × (matched ≢ length report.now.written.items) }
 {
     !report.is_whole || matched == report.written.len()
 }
@@ -41,7 +45,8 @@ fn match_all(
     reports: &[LineReport],
     said: &[(u64, Said)],
 ) -> Result<Vec<usize>, Fault>
-    ensures { IfOk result (λ matched. AreMatched reports.now matched.items said.now) }
+    ensures ok { IfOk result (λ matched. AreMatched reports.now matched.items said.now) }
+    ensures err { IfErr result (λ e. Denies e (AreTold (length reports.now) said.now × AreWritten reports.now said.now)) }
 {
     let mut matched = none_matched(alloc, reports.len())?;
     for (session, answer) in said {
@@ -64,9 +69,12 @@ fn match_frame(
     session: u64,
     frame: &[u8],
 ) -> Result<(), Fault>
-    ensures { OnOk result ((said : List Saying) (answer : Reply) → frame.now ≡ framed answer
+    ensures ok { OnOk result ((said : List Saying) (answer : Reply) → frame.now ≡ framed answer
         → AreMatched reports.now matched.old.items said
         → AreMatched reports.now matched.new.items (said ++ (session, answer) ∷ [])) }
+    ensures err { IfErr result (λ e. (said more : List Saying) (answer : Reply) → frame.now ≡ framed answer
+        → AreMatched reports.now matched.old.items said
+        → Denies e (IsWithin (length reports.now) session × AreWritten reports.now (said ++ (session, answer) ∷ more))) }
 {
     let count = reports.len().min(matched.len()) as u64;
     if session == 0 || session > count {
@@ -81,9 +89,12 @@ fn match_frame(
 // Matches a frame with what was written from this place on, and answers the place behind it. Of a
 // line that isn't whole nothing is matched.
 fn match_bytes(report: &LineReport, from: usize, frame: &[u8]) -> Result<usize, Fault>
-    ensures { IfOk result (λ behind. (all : List ℕ) → report.now.is_whole ≡ true
+    ensures ok { IfOk result (λ behind. (all : List ℕ) → report.now.is_whole ≡ true
         → Matches report.now.write_failed report.now.written.items all from
         → Matches report.now.write_failed report.now.written.items (all ++ frame.now) behind) }
+    ensures err { IfErr result (λ e. (report.now.is_whole ≡ true) × ((all more : List ℕ)
+        → Matches report.now.write_failed report.now.written.items all from
+        → Denies e (AreBytesOf report.now.write_failed report.now.written.items (all ++ (frame.now ++ more))))) }
 {
     if !report.is_whole {
         return Ok(from);
