@@ -56,11 +56,11 @@ pub(crate) struct Window {
 
 /// What writes a server's log.
 #[derive(Drop)]
-pub(crate) struct Scribe {
+pub(crate) struct LogWriter {
     log: Arc<ServerLog>,
 }
 
-impl Scribe {
+impl LogWriter {
     /// Writes it for as long as the program runs.
     pub(crate) fn run<R: Eprint + Wait>(self, rt: &R) {
         self.log.write_on(rt);
@@ -137,12 +137,12 @@ impl Server {
     }
 
     /// What writes its log, where it has one.
-    pub(crate) fn scribe(&self) -> Result<Option<Scribe>, Fault> {
+    pub(crate) fn log_writer(&self) -> Result<Option<LogWriter>, Fault> {
         if !self.log.is_on() {
             return Ok(None);
         }
         let log = Arc::try_clone(&self.log)?;
-        Ok(Some(Scribe { log }))
+        Ok(Some(LogWriter { log }))
     }
 
     /// Says where it listens, and serves. At its end it says on standard error what was compared.

@@ -25,7 +25,7 @@ use clap::error::{Error, ErrorKind};
 use client::{Shell, help, status};
 use fault::Fault;
 use jsp_shell::Typing;
-use listen::{End, Scribe, Server, Window};
+use listen::{End, LogWriter, Server, Window};
 use script::Script;
 use spaces::config;
 use standard::open_standard;
@@ -59,11 +59,11 @@ enum Job {
 
 /// What runs beside a job, in a thread of its own.
 #[derive(Drop)]
-enum Aside {
+enum Background {
     End(End, Stdin),
     Typing(Typing, Stdin),
     Window(Window),
-    Scribe(Scribe),
+    LogWriter(LogWriter),
 }
 
 fn main(rt: HostRuntime) -> ExitCode {
@@ -73,14 +73,14 @@ fn main(rt: HostRuntime) -> ExitCode {
         faults: rt.stderr(),
     };
     let done = match open_standard(&rt).and_then(|()| read_job(&rt, &streams)) {
-        Ok(job) => match job.asides(&rt, streams.input) {
-            Ok(asides) => {
+        Ok(job) => match job.background(&rt, streams.input) {
+            Ok(background) => {
                 let mut begun = Ok(());
                 // Nobody waits for these threads: what they are for may end before.
-                for aside in asides {
-                    let fault = aside.fault();
+                for task in background {
+                    let fault = task.fault();
                     begun = begun.and(match rt.clone() {
-                        Ok(system) => match thread::spawn(&rt, move || aside.run(&system)) {
+                        Ok(system) => match thread::spawn(&rt, move || task.run(&system)) {
                             Ok(_) => Ok(()),
                             Err(_) => Err(fault),
                         },
@@ -108,32 +108,32 @@ fn main(rt: HostRuntime) -> ExitCode {
 
 impl Job {
     /// What is to run beside it, as what reads standard input meanwhile.
-    fn asides<R: AllocGlobal + Files<File = File>>(
+    fn background<R: AllocGlobal + Files<File = File>>(
         &self,
         rt: &R,
         input: Stdin,
-    ) -> Result<Vec<Aside>, Fault> {
-        let mut asides = Vec::new(rt.alloc());
+    ) -> Result<Vec<Background>, Fault> {
+        let mut background = Vec::new(rt.alloc());
         match self {
             Job::Told(_) | Job::Script(_) => {}
             Job::Listen(server) => {
                 if let Some(end) = server.end(rt)? {
-                    asides.push(Aside::End(end, input))?;
+                    background.push(Background::End(end, input))?;
                 }
                 if let Some(window) = server.window()? {
-                    asides.push(Aside::Window(window))?;
+                    background.push(Background::Window(window))?;
                 }
-                if let Some(scribe) = server.scribe()? {
-                    asides.push(Aside::Scribe(scribe))?;
+                if let Some(writer) = server.log_writer()? {
+                    background.push(Background::LogWriter(writer))?;
                 }
             }
             Job::Client(shell) => {
                 if let Some(typing) = shell.typing()? {
-                    asides.push(Aside::Typing(typing, input))?;
+                    background.push(Background::Typing(typing, input))?;
                 }
             }
         }
-        Ok(asides)
+        Ok(background)
     }
 
     fn run<R: AllocGlobal + Print + Eprint + Clock + Files<File = File> + Threads + Wait + Sync>(
@@ -150,7 +150,7 @@ impl Job {
     }
 }
 
-impl Aside {
+impl Background {
     fn run<
         R: AllocGlobal
             + Clock
@@ -161,19 +161,19 @@ impl Aside {
             + Wait,
     >(self, rt: &R) {
         match self {
-            Aside::End(end, input) => end.come(rt, input),
-            Aside::Typing(typing, input) => typing.run(rt, input),
-            Aside::Window(window) => window.show(rt),
-            Aside::Scribe(scribe) => scribe.run(rt),
+            Background::End(end, input) => end.come(rt, input),
+            Background::Typing(typing, input) => typing.run(rt, input),
+            Background::Window(window) => window.show(rt),
+            Background::LogWriter(writer) => writer.run(rt),
         }
     }
 
     /// What is wrong where there is no thread for it.
     fn fault(&self) -> Fault {
         match self {
-            Aside::End(..) | Aside::Typing(..) => Fault::Spawn,
-            Aside::Window(_) => Fault::SpawnShow,
-            Aside::Scribe(_) => Fault::SpawnLog,
+            Background::End(..) | Background::Typing(..) => Fault::Spawn,
+            Background::Window(_) => Fault::SpawnShow,
+            Background::LogWriter(_) => Fault::SpawnLog,
         }
     }
 }
