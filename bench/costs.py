@@ -783,7 +783,7 @@ def print_goals(program, rounds, words):
         if words in name:
             found = [cost_of_each(program, rounds, script_of, count, most) for count in counts]
             show(name, listed(counts), ", ".join(f"{micros:,.1f}" for micros in found), goal)
-    counts = 10_000, 20_000
+    counts = 30_000, 60_000
     for name, texts in ("of its own", max(counts) * 2), ("of one of ten", 10):
         name = f"a stored entry of an int of its own and a short text {name}"
         if words in name:
