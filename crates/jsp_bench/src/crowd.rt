@@ -1,7 +1,7 @@
 //! A space that is awkward to search: what is common is looked for, much of it is held, and many
 //! wait in vain.
-use crate::course::{Course, HOUR};
 use crate::dice::Dice;
+use crate::script_text::{HOUR, ScriptText};
 use std::alloc::{AllocError, Global};
 
 /// How deep the classes go, how many colours and sizes entries have, and how many stand.
@@ -22,26 +22,26 @@ const WAITS: u32 = 40;
 
 #[derive(Drop)]
 struct Crowd {
-    course: Course,
+    script: ScriptText,
     dice: Dice,
     sessions: Vec<u64>,
     /// What a number stands for that was not given yet.
     fresh: u64,
 }
 
-/// A course with so many turns over entries of few colours and sizes, in classes below one another.
+/// A script with so many turns over entries of few colours and sizes, in classes below one another.
 /// A transaction holds the first entries, and requests wait for what hardly ever comes. In a turn
 /// an entry of a class, a colour and a size is looked for, and a new one is written; now and then a
 /// transaction over two spaces is aborted, a session breaks off with what it waits for, a space is
 /// reset, and requests are refused.
 pub(crate) fn crowd_script(alloc: Global, turns: u64, seed: u64) -> Result<String, AllocError> {
     let mut crowd = Crowd {
-        course: Course::new(alloc),
+        script: ScriptText::new(alloc),
         dice: Dice::new(seed),
         sessions: Vec::new(alloc),
         fresh: 0,
     };
-    let first = crowd.course.open()?;
+    let first = crowd.script.open()?;
     crowd.declare(first)?;
     for _ in 0..STANDING {
         crowd.write(first, "a", None)?;
@@ -54,24 +54,24 @@ pub(crate) fn crowd_script(alloc: Global, turns: u64, seed: u64) -> Result<Strin
     for _ in 0..turns {
         crowd.turn()?;
     }
-    Ok(crowd.course.text)
+    Ok(crowd.script.text)
 }
 
 impl Crowd {
     /// Declares classes, each below the one before.
     fn declare(&mut self, session: u64) -> Result<(), AllocError> {
-        self.course.say(
+        self.script.say(
             session,
             r#""op":"declare","class":"Thing0","fields":{"colour":"text","size":"int","whole":"bool","number":"int"}"#,
         )?;
         for depth in 1..DEPTH {
             let above = depth.saturating_sub(1);
-            self.course.ask(session)?;
+            self.script.ask(session)?;
             write!(
-                self.course.text,
+                self.script.text,
                 r#""op":"declare","class":"Thing{depth}","parent":"Thing{above}","fields":{{"mark{depth}":"text"}}"#
             )?;
-            self.course.end()?;
+            self.script.end()?;
         }
         Ok(())
     }
@@ -82,15 +82,15 @@ impl Crowd {
         let size = self.dice.below(SIZES);
         self.fresh = self.fresh.saturating_add(1);
         let number = self.fresh;
-        self.course.ask(session)?;
+        self.script.ask(session)?;
         write!(
-            self.course.text,
+            self.script.text,
             r#""op":"write","space":"{space}","entry":{{"class":"Thing{depth}","fields":{{"colour":"colour {colour}","size":{size},"whole":true,"number":{number}}}}},"lease":{HOUR}"#
         )?;
         if let Some(txn) = txn {
-            write!(self.course.text, r#","txn":{txn}"#)?;
+            write!(self.script.text, r#","txn":{txn}"#)?;
         }
-        self.course.end_numbered()?;
+        self.script.end_numbered()?;
         Ok(())
     }
 
@@ -104,42 +104,42 @@ impl Crowd {
         let depth = self.dice.below(DEPTH);
         let colour = self.dice.below(COLOURS);
         let size = self.dice.below(SIZES);
-        self.course.ask(session)?;
+        self.script.ask(session)?;
         write!(
-            self.course.text,
+            self.script.text,
             r#""op":"{operation}","space":"a","template":{{"class":"Thing{depth}","fields":{{"colour":"colour {colour}","size":{size},"whole":true}}}},"timeout":0"#
         )?;
         if let Some(txn) = txn {
-            write!(self.course.text, r#","txn":{txn}"#)?;
+            write!(self.script.text, r#","txn":{txn}"#)?;
         }
-        self.course.end()
+        self.script.end()
     }
 
     /// A transaction takes the first entries, and stays open.
     fn hold(&mut self, session: u64) -> Result<(), AllocError> {
-        let txn = self.course.begin(session, HOUR)?;
+        let txn = self.script.begin(session, HOUR)?;
         for _ in 0..HELD {
-            self.course.ask(session)?;
+            self.script.ask(session)?;
             write!(
-                self.course.text,
+                self.script.text,
                 r#""op":"take","space":"a","template":null,"timeout":0,"txn":{txn}"#
             )?;
-            self.course.end()?;
+            self.script.end()?;
         }
         Ok(())
     }
 
     /// A session comes that waits for entries that aren't there, each of a number of its own.
     fn enter(&mut self) -> Result<u64, AllocError> {
-        let session = self.course.open()?;
+        let session = self.script.open()?;
         for _ in 0..WAITS {
             let number = self.dice.below(1_000_000);
-            self.course.ask(session)?;
+            self.script.ask(session)?;
             write!(
-                self.course.text,
+                self.script.text,
                 r#""op":"take","space":"a","template":{{"class":"Thing0","fields":{{"whole":false,"number":{number}}}}},"timeout":{HOUR}"#
             )?;
-            self.course.end_numbered()?;
+            self.script.end_numbered()?;
         }
         Ok(session)
     }
@@ -160,7 +160,7 @@ impl Crowd {
             self.err(session)?;
         }
         if self.dice.is_once_in(60) {
-            writeln!(self.course.text, "shut {session}")?;
+            writeln!(self.script.text, "shut {session}")?;
             let next = self.enter()?;
             if let Some(held) = self.sessions.get_mut(place) {
                 *held = next;
@@ -174,31 +174,31 @@ impl Crowd {
 
     /// A transaction takes and writes in two spaces, and is aborted.
     fn undo(&mut self, session: u64) -> Result<(), AllocError> {
-        let txn = self.course.begin(session, HOUR)?;
+        let txn = self.script.begin(session, HOUR)?;
         for _ in 0..3 {
             self.search(session, "take_if", Some(txn))?;
             self.write(session, "b", Some(txn))?;
         }
-        self.course.ask(session)?;
-        write!(self.course.text, r#""op":"abort","txn":{txn}"#)?;
-        self.course.end()
+        self.script.ask(session)?;
+        write!(self.script.text, r#""op":"abort","txn":{txn}"#)?;
+        self.script.end()
     }
 
     /// Requests that are refused.
     fn err(&mut self, session: u64) -> Result<(), AllocError> {
-        self.course.say(
+        self.script.say(
             session,
             r#""op":"take","space":"a","template":{"class":"Nothing","fields":{"size":1}},"timeout":0"#,
         )?;
-        self.course.say(
+        self.script.say(
             session,
             r#""op":"write","space":"a","entry":{"class":"Thing3","fields":{"size":"large"}},"lease":1"#,
         )?;
-        self.course.say(
+        self.script.say(
             session,
             r#""op":"take","space":"a","template":[null],"timeout":0"#,
         )?;
-        writeln!(self.course.text, "send {session} {{\"id\":1,\"op\":")?;
+        writeln!(self.script.text, "send {session} {{\"id\":1,\"op\":")?;
         Ok(())
     }
 
@@ -207,6 +207,6 @@ impl Crowd {
         for _ in 0..10 {
             self.write(session, "c", None)?;
         }
-        self.course.say(session, r#""op":"reset","space":"c""#)
+        self.script.say(session, r#""op":"reset","space":"c""#)
     }
 }

@@ -1,6 +1,6 @@
 //! Long texts, many at a time.
-use crate::course::Course;
 use crate::dice::Dice;
+use crate::script_text::ScriptText;
 use std::alloc::{AllocError, Global};
 
 /// What texts are made of. JSON writes some of it as escapes.
@@ -19,38 +19,38 @@ const PHRASES: [&str; 12] = [
     "and so on, ",
 ];
 
-/// A course of one session in which documents are written and taken by batches, so many times.
+/// A script of one session in which documents are written and taken by batches, so many times.
 pub(crate) fn documents_script(
     alloc: Global,
     batches: u64,
     seed: u64,
 ) -> Result<String, AllocError> {
-    let mut course = Course::new(alloc);
+    let mut script = ScriptText::new(alloc);
     let mut dice = Dice::new(seed);
-    let session = course.open()?;
-    course.say(session, r#""op":"hello","version":2"#)?;
-    course.say(
+    let session = script.open()?;
+    script.say(session, r#""op":"hello","version":2"#)?;
+    script.say(
         session,
         r#""op":"declare","class":"Document","fields":{"title":"text","body":"text","pages":"int","draft":"bool"}"#,
     )?;
     for batch in 0..batches {
-        write_batch(&mut course, &mut dice, session, batch)?;
-        course.say(
+        write_batch(&mut script, &mut dice, session, batch)?;
+        script.say(
             session,
             r#""op":"take_many","space":"a","templates":[{"class":"Document","fields":{"draft":true}},{"class":"Document","fields":{"draft":false}}],"most":16,"timeout":0"#,
         )?;
     }
-    Ok(course.text)
+    Ok(script.text)
 }
 
 fn write_batch(
-    course: &mut Course,
+    script: &mut ScriptText,
     dice: &mut Dice,
     session: u64,
     batch: u64,
 ) -> Result<(), AllocError> {
-    course.ask(session)?;
-    course
+    script.ask(session)?;
+    script
         .text
         .push_str(r#""op":"write_all","space":"a","entries":["#)?;
     let last = dice.below(16);
@@ -58,19 +58,19 @@ fn write_batch(
         let pages = dice.below(500);
         let draft = dice.is_once_in(2);
         write!(
-            course.text,
+            script.text,
             r#"{{"class":"Document","fields":{{"title":"Document {batch}.{place}","pages":{pages},"draft":{draft},"body":""#
         )?;
         let phrases = dice.below(80);
         for _ in 0..phrases {
             if let Some(phrase) = PHRASES.get(dice.below(12) as usize) {
-                course.text.push_str(phrase)?;
+                script.text.push_str(phrase)?;
             }
         }
-        course
+        script
             .text
             .push_str(if place == last { r#""}}"# } else { r#""}},"# })?;
     }
-    course.text.push_str(r#"],"lease":60000"#)?;
-    course.end()
+    script.text.push_str(r#"],"lease":60000"#)?;
+    script.end()
 }

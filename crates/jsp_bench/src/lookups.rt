@@ -1,6 +1,6 @@
 //! Entries found by a value among many.
-use crate::course::{Course, HOUR};
 use crate::dice::Dice;
+use crate::script_text::{HOUR, ScriptText};
 use std::alloc::{AllocError, Global};
 
 /// How many entries stand, and how many owners they have.
@@ -8,67 +8,72 @@ const STANDING: u32 = 20_000;
 
 const OWNERS: u32 = 400;
 
-/// A course of one session with so many searches among many entries: reads by key, an entry taken
+/// A script of one session with so many searches among many entries: reads by key, an entry taken
 /// and written back with another value, keys that nobody has, and any entry of an owner.
 pub(crate) fn lookups_script(
     alloc: Global,
     searches: u64,
     seed: u64,
 ) -> Result<String, AllocError> {
-    let mut course = Course::new(alloc);
+    let mut script = ScriptText::new(alloc);
     let mut dice = Dice::new(seed);
-    let session = course.open()?;
-    course.say(
+    let session = script.open()?;
+    script.say(
         session,
         r#""op":"declare","class":"Item","fields":{"key":"int","owner":"text","count":"int"}"#,
     )?;
     for key in 0..STANDING {
-        put(&mut course, &mut dice, session, key)?;
+        put(&mut script, &mut dice, session, key)?;
     }
     for _ in 0..searches {
         let key = dice.below(STANDING);
         match dice.below(20) {
-            0..9 => find(&mut course, session, "read", key)?,
+            0..9 => find(&mut script, session, "read", key)?,
             9..17 => {
-                find(&mut course, session, "take", key)?;
-                put(&mut course, &mut dice, session, key)?;
+                find(&mut script, session, "take", key)?;
+                put(&mut script, &mut dice, session, key)?;
             }
             17..19 => find(
-                &mut course,
+                &mut script,
                 session,
                 "read_if",
                 STANDING.saturating_add(key),
             )?,
             _ => {
                 let owner = dice.below(OWNERS);
-                course.ask(session)?;
+                script.ask(session)?;
                 write!(
-                    course.text,
+                    script.text,
                     r#""op":"read","space":"a","template":{{"class":"Item","fields":{{"owner":"owner {owner}"}}}},"timeout":0"#
                 )?;
-                course.end()?;
+                script.end()?;
             }
         }
     }
-    Ok(course.text)
+    Ok(script.text)
 }
 
-fn put(course: &mut Course, dice: &mut Dice, session: u64, key: u32) -> Result<(), AllocError> {
+fn put(script: &mut ScriptText, dice: &mut Dice, session: u64, key: u32) -> Result<(), AllocError> {
     let owner = dice.below(OWNERS);
     let count = dice.below(1_000_000);
-    course.ask(session)?;
+    script.ask(session)?;
     write!(
-        course.text,
+        script.text,
         r#""op":"write","space":"a","entry":{{"class":"Item","fields":{{"key":{key},"owner":"owner {owner}","count":{count}}}}},"lease":{HOUR}"#
     )?;
-    course.end()
+    script.end()
 }
 
-fn find(course: &mut Course, session: u64, operation: &str, key: u32) -> Result<(), AllocError> {
-    course.ask(session)?;
+fn find(
+    script: &mut ScriptText,
+    session: u64,
+    operation: &str,
+    key: u32,
+) -> Result<(), AllocError> {
+    script.ask(session)?;
     write!(
-        course.text,
+        script.text,
         r#""op":"{operation}","space":"a","template":{{"class":"Item","fields":{{"key":{key}}}}},"timeout":0"#
     )?;
-    course.end()
+    script.end()
 }

@@ -1,19 +1,19 @@
 //! Jobs of a tuple space, for measuring how long they take: `jsp_bench JOB COUNT SEED`.
 //!
-//! Each job is a course of requests that the seed makes, of a size that the count says. Most are
+//! Each job is a script of requests that the seed makes, of a size that the count says. Most are
 //! run as scripts, by `script` of jsp_script; others are served to a line in memory, by `run_house`
 //! of jsp_floor, as a server serves a client that waits for each answer. What all sessions are sent
 //! goes into a digest, which is printed: so two builds that answer alike print alike. It promises
 //! nothing beyond its safety, and that it ends as what it calls does.
 #![tactic(auto)]
 
-mod course;
 mod crowd;
 mod dice;
 mod digest;
 mod documents;
 mod job;
 mod lookups;
+mod script_text;
 mod served;
 mod watchers;
 mod workers;

@@ -1,6 +1,6 @@
-//! A course of one session as a server serves it, over a line in memory.
+//! A script of one session as a server serves it, over a line in memory.
 use crate::digest::Digest;
-use jsp_floor::{Bounds, Clock, Counts, Door, Gate, Hangup, Knock, LineEnd, run_house};
+use jsp_floor::{Arrival, Bounds, Clock, Counts, Door, Gate, Hangup, LineEnd, run_house};
 use jsp_house::Hall;
 use jsp_model::Config;
 use std::alloc::Global;
@@ -19,7 +19,7 @@ const BOUNDS: Bounds = Bounds {
     backlog_bytes: 1 << 24,
 };
 
-/// What stands before the payload of a request in the script of a course with one session.
+/// What stands before the payload of a request in the script of a script with one session.
 const SENDS: &[u8] = b"send 1 ";
 
 /// The digest of what was written so far, for those that no longer have its writer.
@@ -121,13 +121,13 @@ impl Hangup for Connected {
 }
 
 impl<'a> Door<Incoming<'a>, Outgoing<'a>, Connected> for OneLine<'a> {
-    fn next(&mut self) -> Knock<Incoming<'a>, Outgoing<'a>, Connected> {
+    fn next(&mut self) -> Arrival<Incoming<'a>, Outgoing<'a>, Connected> {
         match self.line.take() {
             Some((incoming, outgoing)) => {
                 let requests = AtomicU64::new(0);
-                Knock::Line(incoming, outgoing, Connected { requests })
+                Arrival::Line(incoming, outgoing, Connected { requests })
             }
-            None => Knock::Closed,
+            None => Arrival::Closed,
         }
     }
 

@@ -1,6 +1,6 @@
 //! Sessions that watch what is written, and list it.
-use crate::course::Course;
 use crate::dice::Dice;
+use crate::script_text::ScriptText;
 use std::alloc::{AllocError, Global};
 
 /// How many sessions watch, what each asks to be told of, and how many topics and levels there are.
@@ -14,14 +14,14 @@ const LEVELS: u32 = 8;
 
 #[derive(Drop)]
 struct Hub {
-    course: Course,
+    script: ScriptText,
     dice: Dice,
     writer: u64,
     watchers: Vec<u64>,
     first_watch: u64,
 }
 
-/// A course with so many entries written, each for two seconds. Sessions are told of those whose
+/// A script with so many entries written, each for two seconds. Sessions are told of those whose
 /// topic and level they watch, list them by pages, look for one of a topic and level, renew what
 /// they watch by, and cancel entries.
 pub(crate) fn watchers_script(
@@ -29,14 +29,14 @@ pub(crate) fn watchers_script(
     entries: u64,
     seed: u64,
 ) -> Result<String, AllocError> {
-    let mut course = Course::new(alloc);
-    let writer = course.open()?;
-    course.say(
+    let mut script = ScriptText::new(alloc);
+    let writer = script.open()?;
+    script.say(
         writer,
         r#""op":"declare","class":"Reading","fields":{"topic":"text","level":"int","value":"int"}"#,
     )?;
     let mut hub = Hub {
-        course,
+        script,
         dice: Dice::new(seed),
         writer,
         watchers: Vec::new(alloc),
@@ -58,34 +58,34 @@ pub(crate) fn watchers_script(
             hub.cancel()?;
         }
         if hub.dice.is_once_in(8) {
-            hub.course.pass(20)?;
+            hub.script.pass(20)?;
         }
     }
-    Ok(hub.course.text)
+    Ok(hub.script.text)
 }
 
 impl Hub {
     /// A session comes, and watches topics, some of them at one level alone.
     fn enter(&mut self) -> Result<(), AllocError> {
-        let session = self.course.open()?;
+        let session = self.script.open()?;
         self.watchers.push(session)?;
-        self.course.say(session, r#""op":"hello","version":2"#)?;
+        self.script.say(session, r#""op":"hello","version":2"#)?;
         for watch in 0..WATCHES {
             let topic = self.dice.below(TOPICS);
-            self.course.ask(session)?;
+            self.script.ask(session)?;
             write!(
-                self.course.text,
+                self.script.text,
                 r#""op":"notify","space":"a","template":{{"class":"Reading","fields":{{"topic":"topic/{topic}""#
             )?;
             if watch % 4 == 0 {
                 let level = self.dice.below(LEVELS);
-                write!(self.course.text, r#","level":{level}"#)?;
+                write!(self.script.text, r#","level":{level}"#)?;
             }
             write!(
-                self.course.text,
+                self.script.text,
                 r#"}}}},"lease":3600000,"handback":"watch {session}.{watch}""#
             )?;
-            self.course.end_numbered()?;
+            self.script.end_numbered()?;
         }
         Ok(())
     }
@@ -94,12 +94,12 @@ impl Hub {
         let topic = self.dice.below(TOPICS);
         let level = self.dice.below(LEVELS);
         let value = self.dice.below(1_000_000);
-        self.course.ask(self.writer)?;
+        self.script.ask(self.writer)?;
         write!(
-            self.course.text,
+            self.script.text,
             r#""op":"write","space":"a","entry":{{"class":"Reading","fields":{{"topic":"topic/{topic}","level":{level},"value":{value}}}}},"lease":2000"#
         )?;
-        self.course.end_numbered()?;
+        self.script.end_numbered()?;
         Ok(())
     }
 
@@ -116,64 +116,64 @@ impl Hub {
         let session = self.watcher();
         let topic = self.dice.below(TOPICS);
         let level = self.dice.below(LEVELS);
-        self.course.ask(session)?;
+        self.script.ask(session)?;
         write!(
-            self.course.text,
+            self.script.text,
             r#""op":"read","space":"a","template":{{"class":"Reading","fields":{{"topic":"topic/{topic}","level":{level}}}}},"timeout":0"#
         )?;
-        self.course.end()
+        self.script.end()
     }
 
     /// Lists the entries of a level, two pages of them.
     fn list(&mut self) -> Result<(), AllocError> {
         let session = self.watcher();
         let level = self.dice.below(LEVELS);
-        self.course.ask(session)?;
+        self.script.ask(session)?;
         write!(
-            self.course.text,
+            self.script.text,
             r#""op":"contents","space":"a","template":{{"class":"Reading","fields":{{"level":{level}}}}},"lease":60000"#
         )?;
-        let set = self.course.end_numbered()?;
+        let set = self.script.end_numbered()?;
         for _ in 0..2 {
-            self.course.ask(session)?;
-            write!(self.course.text, r#""op":"next","set":{set},"most":16"#)?;
-            self.course.end()?;
+            self.script.ask(session)?;
+            write!(self.script.text, r#""op":"next","set":{set},"most":16"#)?;
+            self.script.end()?;
         }
-        self.course.ask(session)?;
-        write!(self.course.text, r#""op":"close_set","set":{set}"#)?;
-        self.course.end()
+        self.script.ask(session)?;
+        write!(self.script.text, r#""op":"close_set","set":{set}"#)?;
+        self.script.end()
     }
 
     /// Renews eight of the leases that a session watches by.
     fn renew(&mut self) -> Result<(), AllocError> {
         let session = self.watcher();
         let first = self.dice.below(WATCHERS * WATCHES);
-        self.course.ask(session)?;
-        self.course.text.push_str(r#""op":"renew_all","leases":["#)?;
+        self.script.ask(session)?;
+        self.script.text.push_str(r#""op":"renew_all","leases":["#)?;
         for place in 0..8 {
             let comma = if place == 0 { "" } else { "," };
             let lease = self.first_watch.saturating_add(u64::from(
                 first.wrapping_add(place) % (WATCHERS * WATCHES),
             ));
-            write!(self.course.text, "{comma}[{lease},3600000]")?;
+            write!(self.script.text, "{comma}[{lease},3600000]")?;
         }
-        self.course.text.push_str("]")?;
-        self.course.end()
+        self.script.text.push_str("]")?;
+        self.script.end()
     }
 
     /// Cancels entries that were written of late, of which some may be gone.
     fn cancel(&mut self) -> Result<(), AllocError> {
-        let last = self.course.last();
-        self.course.ask(self.writer)?;
-        self.course
+        let last = self.script.last();
+        self.script.ask(self.writer)?;
+        self.script
             .text
             .push_str(r#""op":"cancel_all","leases":["#)?;
         for place in 0..8 {
             let comma = if place == 0 { "" } else { "," };
             let lease = last.saturating_sub(u64::from(self.dice.below(200)));
-            write!(self.course.text, "{comma}{lease}")?;
+            write!(self.script.text, "{comma}{lease}")?;
         }
-        self.course.text.push_str("]")?;
-        self.course.end()
+        self.script.text.push_str("]")?;
+        self.script.end()
     }
 }

@@ -7,11 +7,11 @@ use Rattle.std.proofs.lemmas.List.Sorted.{All-permutation}
 use Rattle.jsp_model.specs.declared.house.Why.{Why}
 use Rattle.jsp_drive.specs.declared.ended.Ended.{Ended}
 use Rattle.jsp_drive.specs.declared.era.Era.{Era}
-use Rattle.jsp_line.specs.declared.half.Health.{Health}
+use Rattle.jsp_line.specs.declared.answer_writer.Health.{Health}
 use Rattle.jsp_line.specs.declared.transcript.Transcript.{Transcript}
 use Rattle.jsp_line.specs.declared.transcript.Transcript.TheVariants.{Whole}
 use Rattle.jsp_line.specs.Reading.{Faults, Reads}
-use Rattle.jsp_line.specs.Halves.{Writes}
+use Rattle.jsp_line.specs.Writing.{Writes}
 use Rattle.jsp_closing.specs.Closing.{IsOf}
 use Rattle.jsp_closing.specs.declared.closed.Closed.{Closed}
 use Rattle.jsp_closing.specs.declared.closed.Closed.TheVariants as closed

@@ -1,19 +1,19 @@
 -- What comes through a door, and what the lines that it gave read and wrote.
 use Rattle.std.specs.Prelude.{◌≡◌, ℕ, nat_lt, true, List, All, Option, None}
-use Rattle.jsp_line.specs.declared.half.Health.{Health}
+use Rattle.jsp_line.specs.declared.answer_writer.Health.{Health}
 use Rattle.jsp_line.specs.declared.transcript.Transcript.TheVariants.{Whole}
 use Rattle.jsp_line.specs.Reading.{Faults, Reads}
-use Rattle.jsp_line.specs.Halves.{Writes}
+use Rattle.jsp_line.specs.Writing.{Writes}
 use Rattle.jsp_closing.specs.declared.closed.Closed.{Closed}
 use Rattle.jsp_closing.specs.declared.closed.Closed.TheVariants as closed
 use Rattle.jsp_closing.specs.declared.closed.LineReport.{LineReport}
 use Rattle.jsp_floor.specs.Served.{has_answered}
-use Rattle.jsp_floor.specs.declared.door.Knock.{Knock}
-use Rattle.jsp_floor.specs.declared.door.Knock.TheVariants as knock
+use Rattle.jsp_floor.specs.declared.door.Arrival.{Arrival}
+use Rattle.jsp_floor.specs.declared.door.Arrival.TheVariants as arrival
 
 -- where a line comes, this is true of its reader and its writer
-abbrev pub IfLine : {R W X : Type 0} → Knock R W X → (R → W → Type 0) → Type 0
-IfLine (knock.Line reader writer connection) P = P reader writer
+abbrev pub IfLine : {R W X : Type 0} → Arrival R W X → (R → W → Type 0) → Type 0
+IfLine (arrival.Line reader writer connection) P = P reader writer
 IfLine _ P = Unit {0}
 
 -- The line was served over a reader that had this to give, and a writer that had this already, where that is known. Its bytes

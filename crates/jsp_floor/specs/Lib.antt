@@ -1,4 +1,4 @@
 pub mod Ending
 pub mod Served
 pub mod Doors
-pub mod Guests
+pub mod Admissions

@@ -2,8 +2,8 @@
 use Rattle.std.specs.Prelude.{◌≡◌, ◌⊎◌, ◌&&◌, not, ℕ, Bool, true, false, List, [], ◌∷◌, ◌++◌, Option, Some, None, Vec}
 use Rattle.std.specs.declared.alloc.Global.{Global}
 use Rattle.jsp_drive.specs.declared.ended.Ended.{Ended}
-use Rattle.jsp_line.specs.declared.half.Health.{Health}
-use Rattle.jsp_line.specs.declared.half.Health.TheVariants as health
+use Rattle.jsp_line.specs.declared.answer_writer.Health.{Health}
+use Rattle.jsp_line.specs.declared.answer_writer.Health.TheVariants as health
 use Rattle.jsp_closing.specs.declared.closed.LineReport.{LineReport}
 use Rattle.jsp_model.specs.declared.house.Why.{Why}
 use Rattle.jsp_model.specs.declared.house.Why.TheVariants as why

@@ -10,11 +10,11 @@ mod lines;
 mod run;
 mod served;
 
-pub use door::{Door, Knock};
+pub use door::{Arrival, Door};
 pub use jsp_closing::{Closed, LineReport, RunFault};
 pub use jsp_drive::Ended;
 pub use jsp_line::{
-    Clock, Counted, Counts, Floor, Gate, Hangup, Health, Left, LineDone, LineEnd, OutDone, OutHalf,
-    ReadDone, Shared, ShutFor, SpaceCounts, Start, Transcript,
+    AnswerWriter, Clock, Counted, Counts, Floor, Gate, Hangup, Health, Left, LineDone, LineEnd,
+    ReadDone, Shared, ShutFor, SpaceCounts, Start, Transcript, WriteDone,
 };
 pub use run::{Bounds, run_house};

@@ -93,8 +93,8 @@ impl<R: Read + Drop, W: Write + Drop, X: Hangup + Drop, D: Door<R, W, X>> Lines<
         self.progress.lock(rt).lines.push(line).is_ok()
     }
 
-    /// A line that came through the door has ended, for the reason that is answered. Once an era was
-    /// sealed nothing is kept of what it read and wrote.
+    /// A line that came through the door has ended, for the reason that is answered. Once an era
+    /// was sealed nothing is kept of what it read and wrote.
     pub(crate) fn leave<A: Ledger, O: Ledger, T: Wait>(
         &self,
         rt: &T,

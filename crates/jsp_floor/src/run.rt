@@ -4,12 +4,12 @@ ghost use Rattle.jsp_model.specs.Lookup.{empty};
 ghost use Rattle.jsp_closing.specs.Closing.{Closes};
 ghost use Rattle.jsp_line.specs.Seats.{IsSeated};
 ghost use Rattle.jsp_line.specs.Reading.{Faults, Reads};
-ghost use Rattle.jsp_line.specs.Halves.{Writes};
+ghost use Rattle.jsp_line.specs.Writing.{Writes};
 ghost use Rattle.jsp_floor.specs.Doors.{ComeThrough};
-ghost use Rattle.jsp_floor.specs.Guests.{IfCaller};
+ghost use Rattle.jsp_floor.specs.Admissions.{IfAdmitted};
 ghost use denote.Param.Send.{IsSync, IsSend};
 
-use crate::door::{Door, Knock};
+use crate::door::{Arrival, Door};
 use crate::end::finish;
 use crate::lines::Lines;
 use jsp_closing::{Closed, RunFault};
@@ -21,7 +21,7 @@ use std::io::{Read, Write};
 use std::marker::Brand;
 use std::sync::ledger::{Blank, Ledger};
 use std::sync::{Arc, Wait};
-use std::thread::Threads;
+use std::thread::{Scope, Threads};
 use std::{thread, time};
 
 /// How often a line may read.
@@ -44,7 +44,7 @@ pub struct Bounds {
 
 // A line that has come in, and its session.
 #[derive(Drop)]
-struct Caller<A: Ledger, O: Ledger, R, W, X> {
+struct Admitted<A: Ledger, O: Ledger, R, W, X> {
     reader: R,
     writer: W,
     hangup: Arc<X>,
@@ -53,9 +53,9 @@ struct Caller<A: Ledger, O: Ledger, R, W, X> {
     ghost seated: { IsSeated asks outs },
 }
 
-// What comes of a knock at the door.
+// What comes of an arrival at the door.
 #[derive(Drop)]
-enum Guest<C> {
+enum Admission<C> {
     Line(C),
     /// A connection that isn't served.
     Refused,
@@ -178,17 +178,17 @@ impl<
     }
 
     // Opens the session of a line that has come. Where it gets none its connection is closed.
-    fn welcome(&self, reader: R, writer: W, hangup: X) -> Guest<Caller<A, O, R, W, X>>
+    fn welcome(&self, reader: R, writer: W, hangup: X) -> Admission<Admitted<A, O, R, W, X>>
         requires { D.gives reader writer }
-        ensures { IfCaller result (λ caller. D.gives caller.reader caller.writer) }
+        ensures { IfAdmitted result (λ admitted. D.gives admitted.reader admitted.writer) }
     {
         let Ok(hangup) = Arc::new(self.shared.alloc, hangup) else {
-            return Guest::Refused;
+            return Admission::Refused;
         };
         match self.admit(&hangup) {
             Ok((asks, outs)) => {
                 hangup.opened(asks.session());
-                Guest::Line(Caller {
+                Admission::Line(Admitted {
                     reader,
                     writer,
                     hangup,
@@ -198,21 +198,21 @@ impl<
             }
             Err(why) => {
                 hangup.ended(why);
-                Guest::Refused
+                Admission::Refused
             }
         }
     }
 
     // Waits at the door for the next line.
-    fn receive(&self, door: &mut D) -> Guest<Caller<A, O, R, W, X>>
-        ensures { IfCaller result (λ caller. D.gives caller.reader caller.writer) }
+    fn receive(&self, door: &mut D) -> Admission<Admitted<A, O, R, W, X>>
+        ensures { IfAdmitted result (λ admitted. D.gives admitted.reader admitted.writer) }
     {
         match door.next() {
-            Knock::Line(reader, writer, hangup) => self.welcome(reader, writer, hangup),
-            Knock::Closed => Guest::Ended,
-            Knock::Failed => {
+            Arrival::Line(reader, writer, hangup) => self.welcome(reader, writer, hangup),
+            Arrival::Closed => Admission::Ended,
+            Arrival::Failed => {
                 self.lines.fail(self.shared.rt, RunFault::Spawn);
-                Guest::Ended
+                Admission::Ended
             }
         }
     }
@@ -256,16 +256,16 @@ impl<
     }
 
     // The same, and notes what it read and wrote.
-    fn serve_caller(&self, caller: Caller<A, O, R, W, X>)
-        requires { D.gives caller.reader caller.writer }
+    fn serve_admitted(&self, admitted: Admitted<A, O, R, W, X>)
+        requires { D.gives admitted.reader admitted.writer }
     {
-        let Caller {
+        let Admitted {
             reader,
             writer,
             hangup,
             asks,
             outs,
-        } = caller;
+        } = admitted;
         let rt = self.shared.rt;
         let done = self.serve_or_turn_away(reader, writer, &*hangup, asks, outs);
         let left = self.shared.floor.leave(rt, done.read.seat.session());
@@ -273,8 +273,28 @@ impl<
         hangup.ended(why);
     }
 
-    // Serves all lines of the door, each in a thread of its own, and settles meanwhile. A line for
-    // which there is no thread is turned away at once, as one above those that are served.
+    // Serves a line in a thread of its own, which says at its end what it served, so that nobody
+    // joins it. Where there is no thread the line is turned away at once.
+    fn start_line<'s, E>(&'s self, scope: &Scope<'s, E>, admitted: Admitted<A, O, R, W, X>)
+        requires rows { IsSync T.row × IsSync G.row × IsSync C.row × IsSend H.row × IsSend A.row × IsSync A.row × IsSend O.row × IsSync O.row × IsSend R.row × IsSend W.row × IsSend X.row × IsSync X.row × IsSend D.row }
+        requires given { D.gives admitted.reader admitted.writer }
+    {
+        let session = admitted.asks.session();
+        let serving = scope.spawn(
+            move ||
+                requires { IsSync T.row × IsSync G.row × IsSync C.row × IsSend H.row × IsSend A.row × IsSync A.row × IsSend O.row × IsSync O.row × IsSend R.row × IsSend W.row × IsSend X.row × IsSync X.row × IsSend D.row × D.gives admitted.reader admitted.writer }
+            { self.serve_admitted(admitted) },
+        );
+        if let Err(refused) = serving {
+            self.shared
+                .floor
+                .shut_for(self.shared.rt, session, ShutFor::NoThread);
+            let turn_away = refused.value;
+            turn_away();
+        }
+    }
+
+    // Serves all lines of the door, each in a thread of its own, and settles meanwhile.
     fn serve_all(&self, door: &mut D) {
         thread::scope(
             thread::scope_env(),
@@ -288,22 +308,10 @@ impl<
                     return;
                 };
                 for _ in rt.forever() {
-                    let caller = match self.receive(door) {
-                        Guest::Line(caller) => caller,
-                        Guest::Refused => continue,
-                        Guest::Ended => break,
-                    };
-                    let session = caller.asks.session();
-                    // It says at its end what it served, so that nobody joins it.
-                    let serving = scope.spawn(
-                        move ||
-                            requires { IsSync T.row × IsSync G.row × IsSync C.row × IsSend H.row × IsSend A.row × IsSync A.row × IsSend O.row × IsSync O.row × IsSend R.row × IsSend W.row × IsSend X.row × IsSync X.row × IsSend D.row × D.gives caller.reader caller.writer }
-                        { self.serve_caller(caller) },
-                    );
-                    if let Err(refused) = serving {
-                        self.shared.floor.shut_for(rt, session, ShutFor::NoThread);
-                        let turn_away = refused.value;
-                        turn_away();
+                    match self.receive(door) {
+                        Admission::Line(admitted) => self.start_line(scope, admitted),
+                        Admission::Refused => {}
+                        Admission::Ended => break,
                     }
                 }
                 self.wait_for_lines(&*door);

@@ -1,14 +1,15 @@
 //! What a run's lines read and wrote, and the faults that were met.
-ghost use Rattle.std.specs.Prelude.{◌≡◌, ◌⊎◌, ℕ, [], false, true, nat_lt, is_some, IfNone, IfSome, Vec};
+ghost use Rattle.std.specs.Prelude.{◌≡◌, ◌&&◌, ℕ, [], false, true, nat_lt, is_some, IfNone, IfSome, Vec};
 ghost use Rattle.std.specs.declared.alloc.Global.{Global};
-ghost use Rattle.jsp_line.specs.declared.transcript.Transcript.TheVariants.{Dropped, Whole};
+ghost use Rattle.jsp_line.specs.declared.transcript.Transcript.TheVariants.{Whole};
+ghost use Rattle.jsp_line.specs.Bytes.{has_bytes};
 ghost use Rattle.jsp_floor.specs.Doors.{MayCome};
 ghost use Rattle.jsp_floor.specs.Served.{Adds, AddsShort, fault_of, found_memory, is_short, noted, noted_line, noted_stop, report_of};
 
 use crate::door::Door;
 use jsp_closing::{LineReport, RunFault};
 use jsp_drive::Ended;
-use jsp_line::{Counted, Health, Left, LineDone, OutDone, ReadDone};
+use jsp_line::{Counted, Health, Left, LineDone, ReadDone, WriteDone};
 use jsp_model::Why;
 use std::alloc::Global;
 use std::io::{Read, Write};
@@ -68,7 +69,7 @@ fn report<A: Ledger, O: Ledger, R: Read + Drop, W: Write + Drop>(
     is_whole: bool,
     reader: Counted<R>,
     read: ReadDone<A>,
-    out: OutDone<O, W>,
+    out: WriteDone<O, W>,
     shut_by_house: bool,
 ) -> Option<LineReport>
     ensures session { IfSome result (λ report. report.session ≡ read.seat.session) }
@@ -79,7 +80,7 @@ fn report<A: Ledger, O: Ledger, R: Read + Drop, W: Write + Drop>(
     ensures read_failed { IfSome result (λ report. report.read_failed ≡ nat_lt 0 reader.failures) }
     ensures write_failed { IfSome result (λ report. report.write_failed ≡ nat_lt 0 out.writer.failures) }
     ensures shut_by_house { IfSome result (λ report. report.shut_by_house ≡ shut_by_house) }
-    ensures none { IfNone result ((read.transcript ≡ Dropped) ⊎ (out.transcript ≡ Dropped)) }
+    ensures none { IfNone result (has_bytes read.transcript && has_bytes out.transcript ≡ false) }
 {
     let session = read.seat.session();
     let bytes = read.transcript.into_bytes()?;
@@ -178,7 +179,7 @@ impl<R: Read + Drop, W: Write + Drop, X, D: Door<R, W, X>> Served<R, W, X, D> {
         ensures kept { (read written : Vec ℕ Global) → left.is_sealed ≡ false → done.read.transcript ≡ Whole read → done.out.transcript ≡ Whole written
             → Adds self.old.reports self.new.reports (noted_line self.old.fault done.read.why done.why) self.new.fault
             (report_of done.read.seat.session (found_memory done.read.why done.why done.out.health) done.read.ended read written (nat_lt 0 done.reader.failures) (nat_lt 0 done.out.writer.failures) (is_some left.shut_for)) }
-        ensures dropped { left.is_sealed ≡ false → (done.read.transcript ≡ Dropped) ⊎ (done.out.transcript ≡ Dropped)
+        ensures dropped { left.is_sealed ≡ false → has_bytes done.read.transcript && has_bytes done.out.transcript ≡ false
             → AddsShort self.old.reports self.new.reports (noted_line self.old.fault done.read.why done.why) self.new.fault done.read.seat.session }
         ensures sealed { left.is_sealed ≡ true → (self.new.reports ≡ []) × (self.new.fault ≡ noted_line self.old.fault done.read.why done.why) }
     {

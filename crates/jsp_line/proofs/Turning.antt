@@ -1,6 +1,6 @@
 -- What a line reads and asks, turn by turn.
 use Rattle.std.proofs.Common.{◌≡◌, ℕ, ◌+◌, false, true≢false, List, [], ◌∷◌, ◌++◌, length, refl, sym, ap, ◌∙◌, subst, append_assoc, append-nil, length-append, arith, inl, inr}
-use Rattle.std.specs.Prelude.{Bool, Option, Some, None, IfSome}
+use Rattle.std.specs.Prelude.{Bool, Option, Some, None, IfSome, ◌⊎◌}
 use Rattle.std.proofs.KnownBytes.{Consumes-trans, Consumes-nil}
 use Rattle.jsp_model.specs.declared.step.Step.{Step}
 use Rattle.jsp_wire.specs.declared.ask.Version.TheVariants as version
@@ -8,6 +8,7 @@ use Rattle.jsp_drive.specs.Line.{Unheard, start as begin, IsOutOfMemory}
 use Rattle.jsp_drive.specs.Giving.{Gave, GaveAll}
 use Rattle.jsp_drive.proofs.Splitting.{SplitsInto-nil}
 use Rattle.jsp_line.specs.declared.transcript.Transcript.{Transcript}
+use Rattle.jsp_line.specs.declared.transcript.Transcript.TheVariants.{NoMemory}
 use Rattle.jsp_drive.specs.declared.ended.Ended.{Ended}
 use Rattle.jsp_drive.specs.declared.ended.Ended.TheVariants.{End, Failed, Bound, Closing, Cut, Stopped}
 use Rattle.jsp_line.specs.Bytes.{IsTranscript}
@@ -35,16 +36,25 @@ gave_stopped s stream asked old new out h = record {
 
 -- before the first read
 pub goes_start : (s : ℕ) (left : Option (List ℕ)) (transcript : Transcript) (line : Unheard) (n : ℕ)
-    → IsTranscript transcript [] → Gave s [] [] line → GoesOn s left left transcript line n n
-goes_start s left transcript line n kept gave = record {
+    → IsTranscript transcript [] → (transcript ≡ NoMemory → ⊥) → Gave s [] [] line → GoesOn s left left transcript line n n
+goes_start s left transcript line n kept room gave = record {
   read = [];
   consumed = Consumes-nil left;
   kept = kept;
+  room = room;
   asked = [];
   gave = gave;
   counted = omega arith;
   all = (false, record { payloads = []; rest = []; split = SplitsInto-nil version.One []; ended = inl (omega arith); asked_is = refl });
 }
+
+-- where the line goes on there is memory for what it keeps
+room_here : (old : Transcript) (ended : Option Ended) → (old ≡ NoMemory → ⊥) → (old ≡ NoMemory) ⊎ (ended ≡ Some Stopped) → ended ≡ Some Stopped
+room_here old ended room (inl was) = absurd (room was)
+room_here old ended room (inr now) = now
+
+room_on : (old new : Transcript) (ended : Option Ended) → (old ≡ NoMemory → ⊥) → (new ≡ NoMemory → (old ≡ NoMemory) ⊎ (ended ≡ Some Stopped)) → new ≡ NoMemory → ended ≡ Some Stopped
+room_on old new ended room piece lost = room_here old ended room (piece lost)
 
 -- the line ends at a read
 pub ends_reading : (s : ℕ) (start now left : Option (List ℕ)) (old new : Transcript) (line line' : Unheard) (ended : Ended) (n m : ℕ)
@@ -57,6 +67,7 @@ ends_reading s start now left old new line line' End n m piece on =
       read = on.read ++ piece.piece;
       consumed = Consumes-trans start now left on.read piece.piece on.consumed piece.consumed;
       kept = piece.kept on.read on.kept;
+      room = λ e. cc (room_on old new _ on.room piece.room e);
       asked = on.asked;
       line = line';
       gave = piece.fed s on.read on.asked on.gave;
@@ -71,6 +82,7 @@ ends_reading s start now left old new line line' Failed n m piece on =
       read = on.read ++ piece.piece;
       consumed = Consumes-trans start now left on.read piece.piece on.consumed piece.consumed;
       kept = piece.kept on.read on.kept;
+      room = λ e. cc (room_on old new _ on.room piece.room e);
       asked = on.asked;
       line = line';
       gave = piece.fed s on.read on.asked on.gave;
@@ -84,6 +96,7 @@ ends_reading s start now left old new line line' Stopped n m piece on =
       read = on.read ++ piece.piece;
       consumed = Consumes-trans start now left on.read piece.piece on.consumed piece.consumed;
       kept = piece.kept on.read on.kept;
+      room = λ e. cc (room_on old new _ on.room piece.room e);
       asked = on.asked;
       line = line';
       gave = piece.fed s on.read on.asked on.gave;
@@ -111,27 +124,30 @@ pub goes_turn : (s : ℕ) (start now left : Option (List ℕ)) (old mid new : Tr
     → ReadsPiece now left old mid line fed None
     → ((stream : List ℕ) (asked : List Step) → Gave s stream asked fed → ActsAll ended s stream asked line' m k)
     → ((all : List ℕ) → IsTranscript mid all → IsTranscript new all)
+    → (new ≡ NoMemory → mid ≡ NoMemory)
     → GoesOn s start now old line n m
     → ReadsOn s start left new line' ended n k
-goes_turn s start now left old mid new line fed line' None n m k piece acts kept on =
+goes_turn s start now left old mid new line fed line' None n m k piece acts kept room on =
     let read = on.read ++ piece.piece in
     let a = acts read on.asked (piece.fed s on.read on.asked on.gave) in
     record {
       read = read;
       consumed = Consumes-trans start now left on.read piece.piece on.consumed piece.consumed;
       kept = kept read (piece.kept on.read on.kept);
+      room = λ e. absurd (cc (room_on old mid None on.room piece.room (room e)));
       asked = on.asked ++ a.0.more;
       gave = a.0.gave;
       counted = omega (arith, on.counted, a.0.counted, length-append on.asked a.0.more);
       all = (a.1, a.2);
     }
-goes_turn s start now left old mid new line fed line' (Some ended) n m k piece acts kept on =
+goes_turn s start now left old mid new line fed line' (Some ended) n m k piece acts kept room on =
     let read = on.read ++ piece.piece in
     let (early, more, gave, counted, closing) = acts read on.asked (piece.fed s on.read on.asked on.gave) in
     record {
       read = read;
       consumed = Consumes-trans start now left on.read piece.piece on.consumed piece.consumed;
       kept = kept read (piece.kept on.read on.kept);
+      room = λ e. absurd (cc (room_on old mid None on.room piece.room (room e)));
       asked = on.asked ++ more;
       line = line';
       gave = gave;
@@ -147,6 +163,7 @@ ends_bound s start left transcript line n m on = record {
   read = on.read;
   consumed = on.consumed;
   kept = on.kept;
+  room = λ e. absurd (on.room e);
   asked = on.asked;
   line = line;
   gave = on.gave;
@@ -157,8 +174,8 @@ ends_bound s start left transcript line n m on = record {
 }
 
 -- no turn was taken, and nothing was read
-pub reads_nothing : (s : ℕ) (left : Option (List ℕ)) (transcript : Transcript) → IsTranscript transcript [] → Reads s left left transcript Bound 0 0
-reads_nothing s left transcript kept = ends_bound s left left transcript begin 0 0 (goes_start s left transcript begin 0 kept (gave_start s))
+pub reads_nothing : (s : ℕ) (left : Option (List ℕ)) (transcript : Transcript) → IsTranscript transcript [] → (transcript ≡ NoMemory → ⊥) → Reads s left left transcript Bound 0 0
+reads_nothing s left transcript kept room = ends_bound s left left transcript begin 0 0 (goes_start s left transcript begin 0 kept room (gave_start s))
 
 -- ---- the acts of a piece
 

@@ -1,5 +1,5 @@
 -- Bytes that were read or written, and what is kept of them.
-use Rattle.std.specs.Prelude.{◌≡◌, ℕ, ◌+◌, ◌-◌, ◌^◌, min, List}
+use Rattle.std.specs.Prelude.{◌≡◌, ℕ, ◌+◌, ◌-◌, ◌^◌, min, Bool, true, false, List}
 use Rattle.jsp_line.specs.declared.transcript.Transcript.{Transcript}
 use Rattle.jsp_line.specs.declared.transcript.Transcript.TheVariants as transcript
 
@@ -7,7 +7,13 @@ use Rattle.jsp_line.specs.declared.transcript.Transcript.TheVariants as transcri
 abbrev pub saturated : ℕ → ℕ
 saturated n = min (n + 1) (2 ^ 64 - 1)
 
--- a transcript is of these bytes, or was dropped
+-- it has the bytes
+abbrev pub has_bytes : Transcript → Bool
+has_bytes (transcript.Whole bytes) = true
+has_bytes _ = false
+
+-- a transcript is of these bytes, if it has them
 abbrev pub IsTranscript : Transcript → List ℕ → Type 0
 IsTranscript (transcript.Whole bytes) all = bytes.items ≡ all
-IsTranscript transcript.Dropped all = Unit {0}
+IsTranscript (transcript.Sealed shown) all = Unit {0}
+IsTranscript transcript.NoMemory all = Unit {0}

@@ -2,6 +2,6 @@ pub mod Bytes
 pub mod Slots
 pub mod Seats
 pub mod Notes
-pub mod Halves
+pub mod Writing
 pub mod Reading
 pub mod Turns

@@ -1,5 +1,5 @@
 -- What a floor notes of the sessions that it shut by itself. What is noted of the session s stands at the place s - 1.
-use Rattle.std.specs.Prelude.{ℕ, ◌-◌, ◌==◌, Bool, if◌then◌else◌, List, Option, Some, None, get_or, set}
+use Rattle.std.specs.Prelude.{ℕ, ◌-◌, ◌==◌, if◌then◌else◌, List, Option, Some, None, get_or, set}
 use Rattle.jsp_line.specs.declared.notes.ShutFor.{ShutFor}
 
 -- why the session was shut so, if it was

@@ -10,6 +10,7 @@ use Rattle.jsp_model.specs.declared.step.Step.TheVariants as step
 use Rattle.jsp_drive.specs.Line.{Unheard}
 use Rattle.jsp_drive.specs.Giving.{Gave, GaveAll}
 use Rattle.jsp_line.specs.declared.transcript.Transcript.{Transcript}
+use Rattle.jsp_line.specs.declared.transcript.Transcript.TheVariants.{NoMemory}
 use Rattle.jsp_drive.specs.declared.ended.Ended.{Ended}
 use Rattle.jsp_drive.specs.declared.ended.Ended.TheVariants.{End, Failed, Bound, Closing, Cut, Stopped}
 use Rattle.jsp_line.specs.Bytes.{saturated, IsTranscript}
@@ -51,12 +52,14 @@ abbrev pub Faults : Ended → ℕ → ℕ → Type 0
 Faults Failed before after = after ≡ saturated before
 Faults _ before after = after ≡ before
 
--- What a line read and asked. The bytes read are what a transcript has, if it wasn't dropped. What the line gives for them
--- was acted, in order, and counted at its seat; all of it, where the line ended without an input that ended it.
+-- What a line read and asked. The bytes read are what its transcript has; there are none where an era was sealed, or else
+-- where the line was stopped. What the line gives for them was acted, in order, and counted at its seat; all of it, where the
+-- line ended without an input that ended it.
 pub record Reads (s : ℕ) (before after : Option (List ℕ)) (transcript : Transcript) (ended : Ended) (n m : ℕ) : Type 0 where
   pub read : List ℕ
   pub consumed : Consumes before after read
   pub kept : IsTranscript transcript read
+  pub room : transcript ≡ NoMemory → ended ≡ Stopped
   pub asked : List Step
   pub line : Unheard
   pub gave : Gave s read asked line

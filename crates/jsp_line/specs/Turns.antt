@@ -5,6 +5,7 @@ use Rattle.jsp_model.specs.declared.step.Step.{Step}
 use Rattle.jsp_drive.specs.Line.{Unheard}
 use Rattle.jsp_drive.specs.Giving.{Gave, GaveAll, FeedsStream}
 use Rattle.jsp_line.specs.declared.transcript.Transcript.{Transcript}
+use Rattle.jsp_line.specs.declared.transcript.Transcript.TheVariants.{NoMemory}
 use Rattle.jsp_drive.specs.declared.ended.Ended.{Ended}
 use Rattle.jsp_drive.specs.declared.ended.Ended.TheVariants.{End, Failed, Closing, Cut, Stopped}
 use Rattle.jsp_line.specs.Bytes.{IsTranscript}
@@ -15,6 +16,7 @@ pub record GoesOn (s : ℕ) (before now : Option (List ℕ)) (transcript : Trans
   pub read : List ℕ
   pub consumed : Consumes before now read
   pub kept : IsTranscript transcript read
+  pub room : transcript ≡ NoMemory → ⊥
   pub asked : List Step
   pub gave : Gave s read asked line
   pub counted : m ≡ n + length asked
@@ -37,6 +39,7 @@ pub record ReadsPiece (before after : Option (List ℕ)) (old new : Transcript) 
   pub piece : List ℕ
   pub consumed : Consumes before after piece
   pub kept : (all : List ℕ) → IsTranscript old all → IsTranscript new (all ++ piece)
+  pub room : new ≡ NoMemory → (old ≡ NoMemory) ⊎ (ended ≡ Some Stopped)
   pub fed : FeedsStream line piece line'
   pub ends : EndsReading ended after piece
 

@@ -1,7 +1,7 @@
 //! What is taken is written; and the second thread of a line.
+use crate::answer_writer::{AnswerWriter, Health, Sent, Start};
 use crate::floor::Call;
 use crate::gate::Gate;
-use crate::half::{Health, OutHalf, Sent, Start};
 use crate::hangup::Hangup;
 use crate::shared::Shared;
 use crate::slot::Slot;
@@ -31,20 +31,24 @@ impl<H: InParts, A: Ledger, O: Ledger, G: Gate, C, T: Wait + Clock> Shared<'_, H
     }
 
     /// Writes what the line has taken.
-    pub(crate) fn send<W: Write, S: Start>(&self, half: &Mutex<OutHalf<O, W, S>>, session: u64) {
-        let sent = half.lock(self.rt).flush();
+    pub(crate) fn send<W: Write, S: Start>(
+        &self,
+        answers: &Mutex<AnswerWriter<O, W, S>>,
+        session: u64,
+    ) {
+        let sent = answers.lock(self.rt).flush();
         self.tell(session, sent);
     }
 
     /// Takes what waits for the line, until nothing does, and writes it.
     pub(crate) fn drain<W: Write, S: Start>(
         &self,
-        half: &Mutex<OutHalf<O, W, S>>,
+        answers: &Mutex<AnswerWriter<O, W, S>>,
         session: u64,
     ) -> Result<(), Why> {
         for _ in self.rt.forever() {
-            let taken = half.lock(self.rt).take(self.rt, self.floor);
-            self.send(half, session);
+            let taken = answers.lock(self.rt).take(self.rt, self.floor);
+            self.send(answers, session);
             match taken {
                 Ok(true) => {}
                 Ok(false) => break,
@@ -59,7 +63,7 @@ impl<H: InParts, A: Ledger, O: Ledger, G: Gate, C, T: Wait + Clock> Shared<'_, H
     /// end. At the first seal what the line keeps is dropped.
     pub(crate) fn answer_all<W: Write, S: Start, X: Hangup>(
         &self,
-        half: &Mutex<OutHalf<O, W, S>>,
+        answers: &Mutex<AnswerWriter<O, W, S>>,
         hangup: &X,
         slot: Option<&Slot>,
         session: u64,
@@ -68,13 +72,13 @@ impl<H: InParts, A: Ledger, O: Ledger, G: Gate, C, T: Wait + Clock> Shared<'_, H
         let mut is_told = false;
         for _ in self.rt.forever() {
             let call = self.floor.wait_for(self.rt, session, is_told);
-            if call == Call::Sealed {
+            if let Call::Sealed(sealed) = call {
                 is_told = true;
                 if let Some(slot) = slot {
-                    slot.clear();
+                    slot.clear(self.rt, sealed);
                 }
             }
-            if let Err(why) = self.drain(half, session) {
+            if let Err(why) = self.drain(answers, session) {
                 self.floor.shut(self.rt, session);
                 stopped = Some(why);
                 break;

@@ -5,11 +5,12 @@ ghost use Rattle.jsp_model.specs.House.{IsReady, is_input};
 ghost use Rattle.jsp_kept.specs.Calls.{IsOf};
 ghost use Rattle.jsp_line.specs.declared.floor.Part.TheVariants.{NotYet};
 ghost use Rattle.jsp_line.specs.Seats.{Asks, IsNotYet, IsSeated, taking};
-ghost use Rattle.jsp_line.specs.Halves.{said_in};
+ghost use Rattle.jsp_line.specs.Writing.{said_in};
 
 use crate::counts::Counts;
 use crate::locked::{Left, Locked};
 use crate::notes::ShutFor;
+use crate::sealed::{SealFlag, Sealed};
 use jsp_kept::{AskSeat, InParts, Kept, OutSeat};
 use jsp_model::{Input, Settled, Step, Stopped, Why};
 use jsp_reply::{Refusal, Reply, Said};
@@ -39,8 +40,9 @@ const REST: u64 = 10;
 /// How many steps one part of an act or of a turn makes at most: they take less than a millisecond.
 const STEPS: u64 = 128;
 
-/// How many steps a line makes at most of what is to be made before its act, in one hold. Most of it
-/// is the settling worker's: a hundred lines that wait for one space would else hold up all others.
+/// How many steps a line makes at most of what is to be made before its act, in one hold. Most of
+/// it is the settling worker's: a hundred lines that wait for one space would else hold up all
+/// others.
 const STEPS_BEFORE: u64 = 16;
 
 /// By how many ends the clock goes on in one hold.
@@ -54,7 +56,7 @@ const MOST_YIELDS: u32 = 10_000;
 
 /// A house with its history under one lock, and what its lines and its settling worker wait on.
 ///
-/// Of locks a thread takes that of its line's writing half first, then this one.
+/// Of locks a thread takes that of what writes its line's answers first, then this one.
 #[derive(Drop)]
 pub struct Floor<H: InParts, A: Ledger, O: Ledger> {
     locked: Mutex<Locked<H, A, O>>,
@@ -76,7 +78,7 @@ pub struct Floor<H: InParts, A: Ledger, O: Ledger> {
     /// Whether all lines have ended. It is set under the lock.
     ended: AtomicBool,
     /// Whether an era is known to be sealed, and lines keep no bytes. It is set under the lock.
-    is_sealed: AtomicBool,
+    seal: SealFlag,
     /// How many refusals of each number were taken: the number is the place. They are set under the
     /// lock.
     refusals: Vec<AtomicU64>,
@@ -90,8 +92,8 @@ pub struct Floor<H: InParts, A: Ledger, O: Ledger> {
 pub(crate) enum Call {
     /// Something waits for its session.
     Answers,
-    /// An era was sealed.
-    Sealed,
+    /// An era was sealed, as this shows.
+    Sealed(Sealed),
     /// Its session is closed.
     Closed,
 }
@@ -102,7 +104,8 @@ pub(crate) struct Held {
     pub(crate) acted: Result<Part, Stopped>,
     pub(crate) said: Result<Vec<Said>, Stopped>,
     pub(crate) is_open: bool,
-    pub(crate) is_sealed: bool,
+    /// Where an era was sealed, what shows that.
+    pub(crate) sealed: Option<Sealed>,
     /// Whether a transaction votes, whose turns are to be taken.
     pub(crate) is_voting: bool,
     /// A session that was shut, since its client reads no answers.
@@ -239,7 +242,7 @@ fn hold<H: InParts, A: Ledger, O: Ledger>(
         acted,
         said,
         is_open: kept.is_open(asks.session()),
-        is_sealed: kept.is_sealed(),
+        sealed: Sealed::of(kept),
         is_voting: kept.is_voting(),
         shut: None,
     }
@@ -247,8 +250,8 @@ fn hold<H: InParts, A: Ledger, O: Ledger>(
 
 impl<H: InParts, A: Ledger, O: Ledger> Floor<H, A, O> {
     /// Puts a lock round a history, for so many lines at once. After so many bytes that lines read
-    /// and wrote a new era begins, and a session for which more answers wait than so many, or answers
-    /// that take more memory, in bytes, is shut.
+    /// and wrote a new era begins, and a session for which more answers wait than so many, or
+    /// answers that take more memory, in bytes, is shut.
     pub fn new(
         alloc: Global,
         kept: Kept<H, A, O>,
@@ -270,7 +273,7 @@ impl<H: InParts, A: Ledger, O: Ledger> Floor<H, A, O> {
             wanted: AtomicU64::new(0),
             had: AtomicU64::new(0),
             ended: AtomicBool::new(false),
-            is_sealed: AtomicBool::new(false),
+            seal: SealFlag::new(),
             refusals: zeros(alloc)?,
             spaces,
         })
@@ -514,20 +517,20 @@ impl<H: InParts, A: Ledger, O: Ledger> Floor<H, A, O> {
     }
 
     /// The next answers of a line, if there are any, which read and wrote so many bytes since its
-    /// last act, and whether an era was sealed.
+    /// last act, and what shows that an era was sealed, where one was.
     pub(crate) fn take<T: Wait>(
         &self,
         rt: &T,
         bytes: u64,
         outs: &mut OutSeat<O>,
-    ) -> (Result<Vec<Said>, Stopped>, bool)
+    ) -> (Result<Vec<Said>, Stopped>, Option<Sealed>)
         ensures { outs.new ≡ taking outs.old (length (said_in result.0)) }
     {
         let mut locked = self.lock(rt);
         locked.weigh(bytes);
         let said = take_from(&mut locked.kept, outs);
         self.note_refusals(&said);
-        (said, locked.kept.is_sealed())
+        (said, Sealed::of(&locked.kept))
     }
 
     /// Waits until something waits for the session, or it is closed, or an era was sealed, where
@@ -538,8 +541,10 @@ impl<H: InParts, A: Ledger, O: Ledger> Floor<H, A, O> {
             if !locked.kept.is_open(session) {
                 return Call::Closed;
             }
-            if self.is_sealed.load(Ordering::SeqCst) && !is_told {
-                return Call::Sealed;
+            if let Some(sealed) = self.seal.get()
+                && !is_told
+            {
+                return Call::Sealed(sealed);
             }
             if locked.kept.next_waiting(session.saturating_sub(1)) == Some(session) {
                 return Call::Answers;
@@ -569,14 +574,14 @@ impl<H: InParts, A: Ledger, O: Ledger> Floor<H, A, O> {
     }
 
     /// Whether an era is known to be sealed, and lines keep no bytes.
-    pub(crate) fn is_sealed(&self) -> &AtomicBool {
-        &self.is_sealed
+    pub(crate) fn seal(&self) -> &SealFlag {
+        &self.seal
     }
 
     /// Wakes all lines where an era was sealed for the first time, so that also those at rest drop
     /// what they keep, and says whether one was. No lock is held for that.
     pub(crate) fn tell_of_seal<T: Wait>(&self, rt: &T) -> bool {
-        if self.is_sealed.load(Ordering::SeqCst) || !self.sees_seal(rt) {
+        if self.seal.get().is_some() || !self.sees_seal(rt) {
             return false;
         }
         for signal in self.lines.as_slice() {
@@ -588,9 +593,11 @@ impl<H: InParts, A: Ledger, O: Ledger> Floor<H, A, O> {
     // Whether an era was sealed, which is known from then on.
     fn sees_seal<T: Wait>(&self, rt: &T) -> bool {
         let locked = self.lock(rt);
-        let is_sealed = locked.kept.is_sealed();
-        self.is_sealed.store(is_sealed, Ordering::SeqCst);
-        is_sealed
+        let Some(sealed) = Sealed::of(&locked.kept) else {
+            return false;
+        };
+        self.seal.set(sealed);
+        true
     }
 
     /// A settle turn, or a part of it, after this reading of the clock, where it is a later one.
@@ -664,7 +671,7 @@ impl<H: InParts, A: Ledger, O: Ledger> Floor<H, A, O> {
             wanted: _,
             had: _,
             ended: _,
-            is_sealed: _,
+            seal: _,
             refusals: _,
             spaces: _,
         } = self;

@@ -1,14 +1,14 @@
-//! A line: its two threads over one writing half.
+//! A line: its two threads over what writes its answers.
 ghost use Rattle.std.specs.Prelude.{◌≡◌, ◌≤◌};
 ghost use Rattle.jsp_drive.specs.declared.ended.Ended.TheVariants.{Bound};
 ghost use Rattle.jsp_line.specs.Seats.{IsSeated};
 ghost use Rattle.jsp_line.specs.Reading.{Faults, Reads};
-ghost use Rattle.jsp_line.specs.Halves.{Writes};
+ghost use Rattle.jsp_line.specs.Writing.{Writes};
 ghost use denote.Param.Send.{IsSync, IsSend};
 
+use crate::answer_writer::{AnswerWriter, Health, Start, WriteDone};
 use crate::counted::Counted;
 use crate::gate::{Clock, Gate};
-use crate::half::{Health, OutDone, OutHalf, Start};
 use crate::hangup::Hangup;
 use crate::notes::ShutFor;
 use crate::read::ReadDone;
@@ -30,7 +30,7 @@ use std::{thread, time};
 pub struct LineDone<A: Ledger, O: Ledger, R: Read, W: Write> {
     pub reader: Counted<R>,
     pub read: ReadDone<A>,
-    pub out: OutDone<O, W>,
+    pub out: WriteDone<O, W>,
     /// Why a call of its second thread was stopped, where one was.
     pub why: Option<Why>,
 }
@@ -51,7 +51,7 @@ impl<
         S: Start + Send + Sync,
     >(
         &self,
-        half: &Mutex<OutHalf<O, W, S>>,
+        answers: &Mutex<AnswerWriter<O, W, S>>,
         slot: Option<&Slot>,
         owner: Option<Owner<'_>>,
         reader: R,
@@ -76,14 +76,14 @@ impl<
                 ensures bound { result.1.1.ended ≡ Bound → bound ≤ result.1.0.reads }
             {
                 let answering = scope
-                    .spawn(move || self.answer_all(half, hangup, slot, session))
+                    .spawn(move || self.answer_all(answers, hangup, slot, session))
                     .ok();
                 if answering.is_none() {
                     // Nobody would write what others cause to be said to the line: it ends at once.
                     self.floor.shut_for(self.rt, session, ShutFor::NoThread);
                     hangup.hang_up();
                 }
-                let read = self.read_worker(half, reader, owner, hangup.requests(), asks, bound);
+                let read = self.read_worker(answers, reader, owner, hangup.requests(), asks, bound);
                 let why = answering.and_then(|thread| thread.join(self.rt));
                 (why, read)
             },
@@ -99,7 +99,7 @@ impl<
         S: Start + Send + Sync,
     >(
         &self,
-        half: &Mutex<OutHalf<O, W, S>>,
+        answers: &Mutex<AnswerWriter<O, W, S>>,
         reader: R,
         hangup: &X,
         asks: AskSeat<A>,
@@ -111,10 +111,18 @@ impl<
         ensures bound { result.1.1.ended ≡ Bound → bound ≤ result.1.0.reads }
     {
         let Ok((slot, pass)) = Slot::new(self.alloc) else {
-            return self.read_and_answer(half, None, None, reader, hangup, asks, bound);
+            return self.read_and_answer(answers, None, None, reader, hangup, asks, bound);
         };
         let owner = slot.owner(pass);
-        self.read_and_answer(half, Some(&slot), Some(owner), reader, hangup, asks, bound)
+        self.read_and_answer(
+            answers,
+            Some(&slot),
+            Some(owner),
+            reader,
+            hangup,
+            asks,
+            bound,
+        )
     }
 
     // Serves a line, whose writer's first bytes are picked.
@@ -141,15 +149,15 @@ impl<
         ensures writes { Writes S.start (W.contents result.out.writer.inner) result.out.seat.count result.out.health result.out.writer.failures result.out.transcript }
     {
         let session = outs.session();
-        let half = Mutex::new(OutHalf::<O, W, S>::new(self.alloc, outs, writer));
-        let (why, (reader, read)) = self.read_with_slot(&half, reader, hangup, asks, bound);
-        let mut half = half.into_inner();
-        let sent = half.flush();
+        let answers = Mutex::new(AnswerWriter::<O, W, S>::new(self.alloc, outs, writer));
+        let (why, (reader, read)) = self.read_with_slot(&answers, reader, hangup, asks, bound);
+        let mut answers = answers.into_inner();
+        let sent = answers.flush();
         self.tell(session, sent);
         LineDone {
             reader,
             read,
-            out: half.into_done(),
+            out: answers.into_done(),
             why,
         }
     }
@@ -206,7 +214,7 @@ impl<
                 is_too_long: false,
                 why: None,
             },
-            out: OutDone {
+            out: WriteDone {
                 seat: outs,
                 writer: Counted::new(writer),
                 transcript: Transcript::new(self.alloc),

@@ -1,5 +1,5 @@
 //! Why a line ended, as whoever runs a server is told.
-use crate::half::Health;
+use crate::answer_writer::Health;
 use crate::line::LineDone;
 use crate::locked::Left;
 use crate::notes::ShutFor;

@@ -5,16 +5,17 @@ ghost use Rattle.jsp_model.specs.House.{step_of};
 ghost use Rattle.jsp_drive.specs.Line.{is_line_input, input_of};
 ghost use Rattle.jsp_drive.specs.Giving.{Gave, FeedsStream};
 ghost use Rattle.jsp_drive.specs.declared.ended.Ended.TheVariants.{Bound};
-ghost use Rattle.jsp_line.specs.declared.transcript.Transcript.TheVariants.{Dropped};
+ghost use Rattle.jsp_line.specs.declared.transcript.Transcript.TheVariants.{NoMemory as NoRoom};
 ghost use Rattle.jsp_line.specs.Bytes.{saturated, IsTranscript};
 ghost use Rattle.jsp_line.specs.Seats.{Asks};
 ghost use Rattle.jsp_line.specs.Reading.{is_closing, is_acted, Faults, Reads};
 ghost use Rattle.jsp_line.specs.Turns.{ActsOne, ActsAll, ReadsPiece, FaultsOn, GoesOn, ReadsOn};
 
+use crate::answer_writer::{Acted, AnswerWriter, Start};
 use crate::counted::Counted;
 use crate::gate::{Clock, Gate};
-use crate::half::{Acted, OutHalf, Start};
 use crate::resting::read_at_rest;
+use crate::sealed::SealFlag;
 use crate::shared::Shared;
 use crate::slot::Owner;
 use crate::transcript::Transcript;
@@ -25,7 +26,7 @@ use jsp_reply::Refusal;
 use jsp_wire::{Ask, Scratch};
 use std::alloc::Global;
 use std::io::{Read, Write};
-use std::sync::atomic::{AtomicBool, AtomicU64, Ordering};
+use std::sync::atomic::{AtomicU64, Ordering};
 use std::sync::ledger::Ledger;
 use std::sync::{Mutex, Wait};
 use std::time;
@@ -47,7 +48,7 @@ pub struct ReadDone<A: Ledger> {
 
 /// What a line has beside its bytes while it is read.
 #[derive(Drop)]
-pub(crate) struct Course<'a> {
+pub(crate) struct Reading<'a> {
     /// What the next read is put in.
     piece: [u8; PIECE],
     /// Where payloads are read.
@@ -78,7 +79,7 @@ fn is_closing(given: &LineInput) -> bool
 fn keep_piece(transcript: &mut Transcript, line: &mut Line, piece: &[u8]) -> bool
     ensures kept { (all : List ℕ) → IsTranscript transcript.old all → IsTranscript transcript.new (all ++ piece.now) }
     ensures fed { FeedsStream line.old piece.now line.new }
-    ensures dropped { IsTrue result → transcript.new ≡ Dropped → transcript.old ≡ Dropped }
+    ensures room { IsTrue result → transcript.new ≡ NoRoom → transcript.old ≡ NoRoom }
 {
     let is_kept = transcript.add(piece).is_ok();
     let is_fed = line.feed(piece).is_ok();
@@ -86,12 +87,13 @@ fn keep_piece(transcript: &mut Transcript, line: &mut Line, piece: &[u8]) -> boo
 }
 
 // One read. Its bytes are kept and fed to the line.
-fn read_piece<R: Read>(
+fn read_piece<R: Read, T: Wait>(
+    rt: &T,
     reader: &mut Counted<R>,
     transcript: &mut Transcript,
     line: &mut Line,
-    is_sealed: &AtomicBool,
-    course: &mut Course<'_>,
+    seal: &SealFlag,
+    reading: &mut Reading<'_>,
 ) -> Option<Ended>
     ensures reads { ReadsPiece (R.remaining reader.old.inner) (R.remaining reader.new.inner) transcript.old transcript.new line.old line.new result }
     ensures faults { FaultsOn result reader.old.failures reader.new.failures }
@@ -99,20 +101,21 @@ fn read_piece<R: Read>(
     ensures not_bound { IfSome result (λ ended. ended ≡ Bound → ⊥) }
 {
     let read = read_at_rest(
+        rt,
         reader,
         transcript,
-        &mut course.owner,
-        is_sealed,
-        &mut course.piece,
+        &mut reading.owner,
+        seal,
+        &mut reading.piece,
     );
     match read {
         Ok(0) => Some(Ended::End),
         Ok(n) => {
-            course.bytes = course.bytes.saturating_add(n as u64);
-            if keep_piece(transcript, line, &course.piece[..n]) {
+            reading.bytes = reading.bytes.saturating_add(n as u64);
+            if keep_piece(transcript, line, &reading.piece[..n]) {
                 return None;
             }
-            course.why = Some(Why::NoMemory);
+            reading.why = Some(Why::NoMemory);
             Some(Ended::Stopped)
         }
         Err(_) => Some(Ended::Failed),
@@ -131,9 +134,9 @@ impl<H: InParts, A: Ledger, O: Ledger, G: Gate, C: Clock, T: Wait + time::Clock>
     // An act of the line, behind what is to be made before it, in parts: others go between.
     fn act_in_parts<W: Write, S: Start>(
         &self,
-        half: &Mutex<OutHalf<O, W, S>>,
+        answers: &Mutex<AnswerWriter<O, W, S>>,
         seat: &mut AskSeat<A>,
-        course: &mut Course<'_>,
+        reading: &mut Reading<'_>,
         given: LineInput,
     ) -> Acted
         requires { IsTrue (is_line_input given) }
@@ -142,10 +145,10 @@ impl<H: InParts, A: Ledger, O: Ledger, G: Gate, C: Clock, T: Wait + time::Clock>
         let time = self.clock.now();
         let mut input = given.of_session(seat.session());
         for _ in self.rt.forever() {
-            let acted = half
+            let acted = answers
                 .lock(self.rt)
-                .act(self.rt, self.floor, seat, time, course.bytes, input);
-            course.bytes = 0;
+                .act(self.rt, self.floor, seat, time, reading.bytes, input);
+            reading.bytes = 0;
             match acted {
                 Ok(acted) => {
                     self.cut(acted.shut);
@@ -164,9 +167,9 @@ impl<H: InParts, A: Ledger, O: Ledger, G: Gate, C: Clock, T: Wait + time::Clock>
     // One act of the line. `None` where the line goes on.
     fn act_one<W: Write, S: Start>(
         &self,
-        half: &Mutex<OutHalf<O, W, S>>,
+        answers: &Mutex<AnswerWriter<O, W, S>>,
         seat: &mut AskSeat<A>,
-        course: &mut Course<'_>,
+        reading: &mut Reading<'_>,
         given: LineInput,
     ) -> Option<Ended>
         requires { IsTrue (is_line_input given) }
@@ -175,16 +178,16 @@ impl<H: InParts, A: Ledger, O: Ledger, G: Gate, C: Clock, T: Wait + time::Clock>
     {
         let before = seat.count();
         let closing = is_closing(&given);
-        course.is_too_long = matches!(given, LineInput::Fault(_, Refusal::TooLong));
+        reading.is_too_long = matches!(given, LineInput::Fault(_, Refusal::TooLong));
         self.gate.before(seat.session(), before.saturating_add(1));
-        course.requests.fetch_add(1, Ordering::Relaxed);
-        let acted = self.act_in_parts(half, seat, course, given);
+        reading.requests.fetch_add(1, Ordering::Relaxed);
+        let acted = self.act_in_parts(answers, seat, reading, given);
         let mut why = acted.why();
         if why.is_none() && acted.is_voting {
-            why = self.take_turns(half, seat.session()).err();
+            why = self.take_turns(answers, seat.session()).err();
         }
         if why.is_some() {
-            course.why = why;
+            reading.why = why;
             Some(Ended::Stopped)
         } else if seat.count() == before {
             Some(Ended::Cut)
@@ -198,10 +201,10 @@ impl<H: InParts, A: Ledger, O: Ledger, G: Gate, C: Clock, T: Wait + time::Clock>
     // Acts what the line gives. `None` where the line goes on.
     fn act_all<W: Write, S: Start>(
         &self,
-        half: &Mutex<OutHalf<O, W, S>>,
+        answers: &Mutex<AnswerWriter<O, W, S>>,
         line: &mut Line,
         seat: &mut AskSeat<A>,
-        course: &mut Course<'_>,
+        reading: &mut Reading<'_>,
     ) -> Option<Ended>
         ensures session { seat.new.session ≡ seat.old.session }
         ensures acts { (stream : List ℕ) (asked : List Step) → Gave seat.old.session stream asked line.old
@@ -209,16 +212,16 @@ impl<H: InParts, A: Ledger, O: Ledger, G: Gate, C: Clock, T: Wait + time::Clock>
         ensures early { IfSome result (λ ended. is_acted ended ≡ false) }
     {
         for _ in self.rt.forever() {
-            match line.next_with(&mut course.scratch) {
+            match line.next_with(&mut reading.scratch) {
                 Ok(Next::Input(given)) => {
-                    if let Some(ended) = self.act_one(half, seat, course, given) {
+                    if let Some(ended) = self.act_one(answers, seat, reading, given) {
                         return Some(ended);
                     }
                 }
                 Ok(Next::More) => return None,
                 Ok(Next::Closed) => return None,
                 Err(_) => {
-                    course.why = Some(Why::NoMemory);
+                    reading.why = Some(Why::NoMemory);
                     return Some(Ended::Stopped);
                 }
             }
@@ -229,12 +232,12 @@ impl<H: InParts, A: Ledger, O: Ledger, G: Gate, C: Clock, T: Wait + time::Clock>
     // One read, the acts of its bytes, and their answers. `None` where the line goes on.
     fn turn<R: Read, W: Write, S: Start>(
         &self,
-        half: &Mutex<OutHalf<O, W, S>>,
+        answers: &Mutex<AnswerWriter<O, W, S>>,
         reader: &mut Counted<R>,
         transcript: &mut Transcript,
         line: &mut Line,
         seat: &mut AskSeat<A>,
-        course: &mut Course<'_>,
+        reading: &mut Reading<'_>,
     ) -> Option<Ended>
         ensures session { seat.new.session ≡ seat.old.session }
         ensures reads { (start : Option (List ℕ)) (n : ℕ)
@@ -244,24 +247,24 @@ impl<H: InParts, A: Ledger, O: Ledger, G: Gate, C: Clock, T: Wait + time::Clock>
         ensures counted { reader.new.reads ≡ saturated reader.old.reads }
         ensures not_bound { IfSome result (λ ended. ended ≡ Bound → ⊥) }
     {
-        let is_sealed = self.floor.is_sealed();
-        if let Some(ended) = read_piece(reader, transcript, line, is_sealed, course) {
+        let seal = self.floor.seal();
+        if let Some(ended) = read_piece(self.rt, reader, transcript, line, seal, reading) {
             return Some(ended);
         }
-        let ended = self.act_all(half, line, seat, course);
-        self.send(half, seat.session());
+        let ended = self.act_all(answers, line, seat, reading);
+        self.send(answers, seat.session());
         ended
     }
 
     // Takes turns until the line ends.
     fn read_turns<R: Read, W: Write, S: Start>(
         &self,
-        half: &Mutex<OutHalf<O, W, S>>,
+        answers: &Mutex<AnswerWriter<O, W, S>>,
         reader: &mut Counted<R>,
         transcript: &mut Transcript,
         line: &mut Line,
         seat: &mut AskSeat<A>,
-        course: &mut Course<'_>,
+        reading: &mut Reading<'_>,
         bound: u64,
     ) -> Ended
         ensures session { seat.new.session ≡ seat.old.session }
@@ -272,7 +275,7 @@ impl<H: InParts, A: Ledger, O: Ledger, G: Gate, C: Clock, T: Wait + time::Clock>
         ensures bound { result ≡ Bound → bound ≤ reader.new.reads }
     {
         'turns: for _turn in 0..bound {
-            if let Some(ended) = self.turn(half, reader, transcript, line, seat, course) {
+            if let Some(ended) = self.turn(answers, reader, transcript, line, seat, reading) {
                 return ended;
             }
         }
@@ -282,7 +285,7 @@ impl<H: InParts, A: Ledger, O: Ledger, G: Gate, C: Clock, T: Wait + time::Clock>
     /// Reads a line until it ends, or until it has read `bound` times, and shuts its session.
     pub(crate) fn read_worker<R: Read, W: Write, S: Start>(
         &self,
-        half: &Mutex<OutHalf<O, W, S>>,
+        answers: &Mutex<AnswerWriter<O, W, S>>,
         reader: R,
         owner: Option<Owner<'_>>,
         requests: &AtomicU64,
@@ -297,7 +300,7 @@ impl<H: InParts, A: Ledger, O: Ledger, G: Gate, C: Clock, T: Wait + time::Clock>
         let mut reader = Counted::new(reader);
         let mut line = Line::new(self.alloc);
         let mut transcript = Transcript::new(self.alloc);
-        let mut course = Course {
+        let mut reading = Reading {
             piece: [0; PIECE],
             scratch: Scratch::new(self.alloc),
             owner,
@@ -307,12 +310,12 @@ impl<H: InParts, A: Ledger, O: Ledger, G: Gate, C: Clock, T: Wait + time::Clock>
             why: None,
         };
         let ended = self.read_turns(
-            half,
+            answers,
             &mut reader,
             &mut transcript,
             &mut line,
             &mut seat,
-            &mut course,
+            &mut reading,
             bound,
         );
         self.floor.shut(self.rt, seat.session());
@@ -320,8 +323,8 @@ impl<H: InParts, A: Ledger, O: Ledger, G: Gate, C: Clock, T: Wait + time::Clock>
             seat,
             transcript,
             ended,
-            is_too_long: course.is_too_long,
-            why: course.why,
+            is_too_long: reading.is_too_long,
+            why: reading.why,
         };
         (reader, done)
     }

@@ -1,7 +1,7 @@
 //! The turns of transactions that vote: by the worker that settles, and by the thread whose act
 //! began a vote.
+use crate::answer_writer::{AnswerWriter, Start};
 use crate::gate::{Clock, Gate};
-use crate::half::{OutHalf, Start};
 use crate::shared::Shared;
 use jsp_kept::{InParts, MOST_OLD};
 use jsp_model::{Settled, Why};
@@ -66,7 +66,7 @@ impl<H: InParts, A: Ledger, O: Ledger, G: Gate, C: Clock, T: Wait + time::Clock>
     /// where one is stopped, is the settling worker's.
     pub(crate) fn take_turns<W: Write, S: Start>(
         &self,
-        half: &Mutex<OutHalf<O, W, S>>,
+        answers: &Mutex<AnswerWriter<O, W, S>>,
         session: u64,
     ) -> Result<(), Why> {
         let mut none = Vec::new(self.alloc);
@@ -81,10 +81,10 @@ impl<H: InParts, A: Ledger, O: Ledger, G: Gate, C: Clock, T: Wait + time::Clock>
                 Err(_) => break,
             }
             if !turned.is_voting {
-                return self.drain(half, session);
+                return self.drain(answers, session);
             }
         }
         self.floor.call_worker();
-        self.drain(half, session)
+        self.drain(answers, session)
     }
 }

@@ -1,19 +1,26 @@
 //! Where a line puts the bytes that it has read while it waits for more, so that they can be
 //! dropped meanwhile.
-ghost use Rattle.std.specs.Prelude.{◌≡◌, IfOk, IfErr, IfSome, OnOk};
+ghost use Rattle.std.specs.Prelude.{◌≡◌, true, IfOk, IfErr, IfSome, OnOk};
 ghost use Rattle.crossbeam_queue.specs.Passes.{ruled_capacity, IsPassOf};
+ghost use Rattle.jsp_line.specs.Bytes.{has_bytes};
+ghost use Rattle.jsp_line.specs.Slots.{Holds};
 
+use crate::sealed::Sealed;
+use crate::transcript::Transcript;
 use crossbeam_queue::protocol::{Outcome, Protocol};
 use crossbeam_queue::{Pass, RuledArrayQueue};
 use jsp_types::NoMemory;
 use std::alloc::Global;
 use std::collections::LinkedList;
 use std::marker::Model;
+use std::sync::Wait;
+use std::thread;
 
-// What is in a slot is what its owner has put there last. A pass knows that as a list.
+// What is in a slot is what its owner has put there last, or shows why that was dropped. A pass
+// knows what was put as a list.
 struct LastPut;
 
-impl Protocol<Vec<u8>, LinkedList<u8>> for LastPut {
+impl Protocol<Transcript, LinkedList<u8>> for LastPut {
     ghost use Rattle.std.specs.Prelude.{[]};
     ghost use Rattle.jsp_line.specs.Slots.{HoldsLast};
 
@@ -25,34 +32,35 @@ impl Protocol<Vec<u8>, LinkedList<u8>> for LastPut {
 // The owner has put it there.
 struct Put;
 
-impl Outcome<Vec<u8>, LinkedList<u8>> for Put {
-    ghost use Rattle.std.specs.Prelude.{◌≡◌};
+impl Outcome<Transcript, LinkedList<u8>> for Put {
+    ghost use Rattle.jsp_line.specs.Slots.{Holds};
 
-    ghost then = { λ v x w. w ≡ x.items };
+    ghost then = { λ v x w. Holds x w };
 }
 
 // The owner has taken it.
 struct Taken;
 
-impl Outcome<Vec<u8>, LinkedList<u8>> for Taken {
+impl Outcome<Transcript, LinkedList<u8>> for Taken {
     ghost use Rattle.std.specs.Prelude.{◌≡◌};
+    ghost use Rattle.jsp_line.specs.Slots.{Holds};
 
-    ghost then = { λ v x w. (x.items ≡ v) × (w ≡ v) };
+    ghost then = { λ v x w. Holds x v × (w ≡ v) };
 }
 
-// Somebody has taken it, who knows nothing of it.
+// Somebody has taken it, or put there what shows why: who knows nothing of it.
 struct Cleared;
 
-impl Outcome<Vec<u8>, LinkedList<u8>> for Cleared {
+impl Outcome<Transcript, LinkedList<u8>> for Cleared {
     ghost use Rattle.std.specs.Prelude.{⊤};
 
     ghost then = { λ v x w. ⊤ };
 }
 
-type Place = RuledArrayQueue<Vec<u8>, LinkedList<u8>, LastPut>;
+type Place = RuledArrayQueue<Transcript, LinkedList<u8>, LastPut>;
 
 /// What makes a thread the owner of a slot. It has no bytes.
-pub(crate) type Ownership = Pass<Vec<u8>, LinkedList<u8>>;
+pub(crate) type Ownership = Pass<Transcript, LinkedList<u8>>;
 
 /// A place for the bytes that one line has read. One thread owns it, and any thread may clear it.
 #[derive(Drop)]
@@ -95,26 +103,60 @@ impl Slot {
         Owner { slot: self, pass }
     }
 
-    /// Drops what is there, unless its owner is just taking it.
-    pub(crate) fn clear(&self) {
+    /// Drops what is there, and leaves what shows why, unless its owner is just taking it.
+    pub(crate) fn clear<T: Wait>(&self, rt: &T, sealed: Sealed) {
         let mut pass = self.place.pass();
-        let _cleared = self.place.try_pop_as::<Cleared>(&mut pass);
+        let Some(dropped) = self.place.try_pop_as::<Cleared>(&mut pass) else {
+            return;
+        };
+        for _ in rt.forever() {
+            if self.show(&mut pass, sealed) {
+                break;
+            }
+            thread::yield_now();
+        }
+        drop(dropped);
+    }
+
+    // One attempt to leave what shows why nothing is there.
+    fn show(&self, pass: &mut Ownership, sealed: Sealed) -> bool
+        requires { IsPassOf self.now.place pass.old }
+        ensures { IsPassOf self.now.place pass.new }
+    {
+        let shown = Transcript::Sealed(sealed);
+        self.place.try_push_as::<Cleared>(pass, shown).is_ok()
     }
 }
 
 impl Owner<'_> {
     /// Puts bytes there, after the last ones were taken. They come back where somebody is just
     /// clearing it.
-    pub(crate) fn put(&mut self, bytes: Vec<u8>) -> Result<(), Vec<u8>>
-        ensures ok { OnOk result (self.new ≡ bytes.items) }
-        ensures err { IfErr result (λ back. back ≡ bytes) }
+    pub(crate) fn put(&mut self, whole: Transcript) -> Result<(), Transcript>
+        requires { has_bytes whole ≡ true }
+        ensures ok { OnOk result (Holds whole self.new) }
+        ensures err { IfErr result (λ back. back ≡ whole) }
     {
-        self.slot.place.try_push_as::<Put>(&mut self.pass, bytes)
+        self.slot.place.try_push_as::<Put>(&mut self.pass, whole)
     }
 
-    /// Takes what it has put there last, unless that was taken or dropped.
-    pub(crate) fn take(&mut self) -> Option<Vec<u8>>
-        ensures some { IfSome result (λ bytes. bytes.items ≡ self.old) }
+    /// Takes what it has put there last, or what shows why that was dropped. Who clears the slot
+    /// leaves that at once.
+    pub(crate) fn take<T: Wait>(&mut self, rt: &T) -> Transcript
+        ensures holds { Holds result self.old }
+        ensures same { self.new ≡ self.old }
+    {
+        for _ in rt.forever() {
+            if let Some(taken) = self.take_once() {
+                return taken;
+            }
+            thread::yield_now();
+        }
+        unreachable!()
+    }
+
+    // One attempt to take it.
+    fn take_once(&mut self) -> Option<Transcript>
+        ensures holds { IfSome result (λ taken. Holds taken self.old) }
         ensures same { self.new ≡ self.old }
     {
         self.slot.place.try_pop_as::<Taken>(&mut self.pass)

@@ -1,6 +1,6 @@
 //! Lines in memory: what each sends and is to be sent, and how its reader and writer fail.
 use crate::watch::{Answer, Watch};
-use jsp_floor::{Door, Hangup, Knock, LineEnd};
+use jsp_floor::{Arrival, Door, Hangup, LineEnd};
 use std::alloc::Global;
 use std::io::{self, ErrorKind, Read, Write};
 use std::sync::Wait;
@@ -118,13 +118,13 @@ impl Hangup for Connected {
 }
 
 impl<'w, 'a, T> Door<Incoming<'w, 'a, T>, Outgoing<'w, 'a, T>, Connected> for Lines<'w, 'a, T> {
-    fn next(&mut self) -> Knock<Incoming<'w, 'a, T>, Outgoing<'w, 'a, T>, Connected> {
+    fn next(&mut self) -> Arrival<Incoming<'w, 'a, T>, Outgoing<'w, 'a, T>, Connected> {
         match self.left.pop() {
             Some((incoming, outgoing)) => {
                 let requests = AtomicU64::new(0);
-                Knock::Line(incoming, outgoing, Connected { requests })
+                Arrival::Line(incoming, outgoing, Connected { requests })
             }
-            None => Knock::Closed,
+            None => Arrival::Closed,
         }
     }
 

@@ -3,7 +3,7 @@ use crate::link::{Connection, Incoming, Outgoing, halves};
 use crate::server::Service;
 use crate::stop::Stop;
 use jsp_board::Traffic;
-use jsp_floor::{Door, Knock};
+use jsp_floor::{Arrival, Door};
 use jsp_log::{Notice, ServerLog};
 use std::alloc::Global;
 use std::io::{self, ErrorKind};
@@ -72,14 +72,14 @@ impl<'a, T: Clock + Eprint + Wait> Door<Incoming<'a, T>, Outgoing<'a, T>, Connec
     /// Waits for a connection. One that is gone again before it can be served counts as one. Where
     /// the system has no room for one it is asked again after a pause: that is no fault of the
     /// server, and may end.
-    fn next(&mut self) -> Knock<Incoming<'a, T>, Outgoing<'a, T>, Connection<'a, T>> {
+    fn next(&mut self) -> Arrival<Incoming<'a, T>, Outgoing<'a, T>, Connection<'a, T>> {
         for _ in 0..u64::MAX {
             if self.left == 0 {
-                return Knock::Closed;
+                return Arrival::Closed;
             }
             let accepted = self.listener.accept();
             if self.stop.is_asked() {
-                return Knock::Closed;
+                return Arrival::Closed;
             }
             match accepted {
                 Ok((stream, address)) => {
@@ -93,17 +93,17 @@ impl<'a, T: Clock + Eprint + Wait> Door<Incoming<'a, T>, Outgoing<'a, T>, Connec
                         self.traffic,
                         self.log,
                     ) {
-                        return Knock::Line(incoming, outgoing, whole);
+                        return Arrival::Line(incoming, outgoing, whole);
                     }
                 }
                 Err(error) if is_gone(&error) => {}
                 Err(error) => match no_room(&error) {
                     Some(code) => self.pause(code),
-                    None => return Knock::Failed,
+                    None => return Arrival::Failed,
                 },
             }
         }
-        Knock::Closed
+        Arrival::Closed
     }
 
     fn is_stopped(&self) -> bool {

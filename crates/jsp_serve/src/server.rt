@@ -16,8 +16,8 @@ use std::sync::Wait;
 use std::thread::Threads;
 use std::time::{Clock as SystemClock, Duration, Instant};
 
-/// Holds nobody, puts what was counted on the board, if there is one, and has in the log that an era
-/// was sealed.
+/// Holds nobody, puts what was counted on the board, if there is one, and has in the log that an
+/// era was sealed.
 #[derive(Drop)]
 struct Open<'a, T> {
     system: &'a T,
@@ -88,8 +88,8 @@ pub struct Service {
 
 /// Serves the connections of the listener over the spaces of `config`, and ends when there were as
 /// many as `service` says and all have ended, or in order once it is asked to `stop`. Meanwhile it
-/// notes every few seconds on the board what it does, puts its status there where that is asked for,
-/// and has in its log which connections it serves, and why they end.
+/// notes every few seconds on the board what it does, puts its status there where that is asked
+/// for, and has in its log which connections it serves, and why they end.
 ///
 /// Each whole line of the answer is a connection's: what it read is what was asked by it and
 /// counted, what it wrote are the frames of the answers that it took, and a failure is told where a

@@ -6,7 +6,7 @@ returns-in-Some-clause-reads g c = λ start n on. ends_reading _ start _ _ _ _ _
 
 pub returns-clause-reads : goal.returns-clause-reads
 returns-clause-reads g c = λ start n on.
-    goes_turn _ start _ _ _ _ _ _ _ _ c.act_all-ended.result n _ _ c.in_default.ensures.reads c.act_all-ended.ensures.acts (λ all kept. kept) on
+    goes_turn _ start _ _ _ _ _ _ _ _ c.act_all-ended.result n _ _ c.in_default.ensures.reads c.act_all-ended.ensures.acts (λ all kept. kept) (λ lost. lost) on
 
 pub returns-clause-faults : goal.returns-clause-faults
 returns-clause-faults g c = no_fault c.act_all-ended.result _ _ c.act_all-ended.ensures.early c.in_default.ensures.faults

@@ -1,8 +1,0 @@
-use Rattle.std.proofs.Common.{sym, ◌∙◌}
-use Rattle.jsp_line.proofs.Writing.{half_written}
-use Rattle.jsp_line.proofs.half.OutHalf.write_pile.Goals as goal
-
-pub invariant_of-self : goal.invariant_of-self
-invariant_of-self g c =
-    let wrote = c.write_on-self-inside.ensures in
-    half_written _ _ _ _ _ _ _ _ _ _ _ _ c.self.invariant (sym c.is_sound.ensures ∙ c.if-not-is_sound.false) wrote.writes wrote.cleared
