@@ -54,8 +54,8 @@ impl Board {
         self.is_wanted() || self.is_due(time)
     }
 
-    /// Notes what was counted at this time, in milliseconds after the server began, and puts a status
-    /// for whoever looks. Where there is no memory, it is left out.
+    /// Notes what was counted at this time, in milliseconds after the server began, and puts a
+    /// status for whoever looks. Where there is no memory, it is left out.
     pub fn note<T: Wait + Clock>(
         &self,
         rt: &T,
@@ -82,8 +82,8 @@ impl Board {
         self.due.load(Ordering::SeqCst) <= time
     }
 
-    /// The status that counts make, which were taken at this time. Whoever shows it adds the memory,
-    /// which costs a file to read.
+    /// The status that counts make, which were taken at this time. Whoever shows it adds the
+    /// memory, which costs a file to read.
     fn status<T: Wait + Clock>(
         &self,
         rt: &T,

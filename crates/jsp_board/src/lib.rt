@@ -6,9 +6,9 @@
 //! jsp_status.
 #![tactic(auto)]
 
+mod activity;
 mod board;
 mod counted;
-mod figures;
 mod history;
 mod memory;
 mod refusals;
@@ -16,7 +16,7 @@ mod show;
 mod traffic;
 mod visit;
 
+pub use activity::Activity;
 pub use board::{Board, Origin};
-pub use figures::Figures;
 pub use show::show_status;
 pub use traffic::Traffic;

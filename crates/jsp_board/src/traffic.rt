@@ -1,5 +1,5 @@
 //! Which connections a server has, and how many it had.
-use crate::figures::Figures;
+use crate::activity::Activity;
 use jsp_status::{ConnectionCounts, ConnectionStatus};
 use std::alloc::{AllocError, Global};
 use std::sync::{Arc, Mutex, Wait};
@@ -23,7 +23,7 @@ struct Tally {
     peak: u64,
     open: u64,
     /// Those that are open, in the order in which they were opened, as far as there was memory.
-    list: Vec<Arc<Figures>>,
+    list: Vec<Arc<Activity>>,
 }
 
 impl Traffic {
@@ -40,13 +40,13 @@ impl Traffic {
     }
 
     /// One was opened. Where there is no memory for it, it is counted and not listed.
-    pub fn open<T: Wait>(&self, rt: &T, figures: &Arc<Figures>) {
+    pub fn open<T: Wait>(&self, rt: &T, activity: &Arc<Activity>) {
         let mut tally = self.tally.lock(rt);
         tally.open = tally.open.saturating_add(1);
         tally.total = tally.total.saturating_add(1);
         tally.peak = tally.peak.max(tally.open);
-        if let Ok(figures) = Arc::try_clone(figures) {
-            let _ = tally.list.push(figures);
+        if let Ok(activity) = Arc::try_clone(activity) {
+            let _ = tally.list.push(activity);
         }
     }
 
@@ -54,7 +54,7 @@ impl Traffic {
     pub fn end<T: Wait>(&self, rt: &T, session: u64) {
         let mut tally = self.tally.lock(rt);
         tally.open = tally.open.saturating_sub(1);
-        tally.list.retain(|figures| figures.session() != session);
+        tally.list.retain(|activity| activity.session() != session);
     }
 
     /// The counts where so many are served. One that has just come or gone may be counted here and
@@ -78,8 +78,8 @@ impl Traffic {
     ) -> Result<Vec<ConnectionStatus>, AllocError> {
         let tally = self.tally.lock(rt);
         let mut list = Vec::new(alloc);
-        for figures in tally.list.iter().take(MOST_LISTED) {
-            list.push(figures.to_status(rt, alloc)?)?;
+        for activity in tally.list.iter().take(MOST_LISTED) {
+            list.push(activity.to_status(rt, alloc)?)?;
         }
         Ok(list)
     }

@@ -34,14 +34,14 @@ pub struct ServerLog {
     format: Option<LogFormat>,
     /// Whether only what is wrong is told.
     is_quiet: bool,
-    desk: Mutex<Desk>,
+    unwritten: Mutex<Unwritten>,
     /// Signalled when a line waits, and when those that waited are written.
     changed: Condvar,
 }
 
 /// What is still to be written.
 #[derive(Drop)]
-struct Desk {
+struct Unwritten {
     pace: Pace,
     lines: Vec<Line>,
     /// Whether lines are being written that were taken from here.
@@ -73,7 +73,7 @@ impl ServerLog {
             alloc,
             format,
             is_quiet,
-            desk: Mutex::new(Desk {
+            unwritten: Mutex::new(Unwritten {
                 pace: Pace {
                     second: 0,
                     count: 0,
@@ -97,9 +97,9 @@ impl ServerLog {
             return;
         }
         if let Some(format) = self.format {
-            let mut desk = self.desk.lock(rt);
+            let mut unwritten = self.unwritten.lock(rt);
             // The time is read in the lock, so that times rise.
-            desk.add(Line {
+            unwritten.add(Line {
                 time: now(rt),
                 format,
                 notice,
@@ -115,29 +115,31 @@ impl ServerLog {
                 // Where it can't be written there is nobody to tell.
                 let _ = rt.eprintln(line);
             }
-            self.desk.lock(rt).is_writing = false;
+            self.unwritten.lock(rt).is_writing = false;
             self.changed.notify_all();
         }
     }
 
     /// The lines that wait, once there is one.
     fn next_lines<T: Wait>(&self, rt: &T) -> Vec<Line> {
-        let desk = self.desk.lock(rt);
-        let mut desk = self
-            .changed
-            .wait_while(rt, desk, |desk: &mut Desk| desk.lines.is_empty());
-        desk.is_writing = true;
-        mem::replace(&mut desk.lines, Vec::new(self.alloc))
+        let unwritten = self.unwritten.lock(rt);
+        let mut unwritten = self.changed.wait_while(
+            rt,
+            unwritten,
+            |unwritten: &mut Unwritten| unwritten.lines.is_empty(),
+        );
+        unwritten.is_writing = true;
+        mem::replace(&mut unwritten.lines, Vec::new(self.alloc))
     }
 
     /// Waits until all is written, a moment at the longest.
     pub fn finish<T: Clock + Wait>(&self, rt: &T) {
-        let desk = self.desk.lock(rt);
+        let unwritten = self.unwritten.lock(rt);
         let _done = self.changed.wait_timeout_while(
             rt,
-            desk,
+            unwritten,
             Duration::from_millis(PATIENCE),
-            |desk: &mut Desk| desk.is_writing || !desk.lines.is_empty(),
+            |unwritten: &mut Unwritten| unwritten.is_writing || !unwritten.lines.is_empty(),
         );
     }
 }
@@ -150,7 +152,7 @@ fn now<T: Clock>(rt: &T) -> i64 {
     }
 }
 
-impl Desk {
+impl Unwritten {
     /// Adds a line, and before it one that says how many were left out, where some were.
     fn add(&mut self, line: Line) {
         let Some(count) = self.pace.next_in(line.time / 1000) else {

@@ -79,7 +79,8 @@ pub(crate) const USUAL_BACKLOG: u64 = 65_536;
 /// The id of how much memory they may take.
 pub(crate) const BACKLOG_BYTES: &str = "backlog-bytes";
 
-/// The most bytes of memory that they may take, a tebibyte, and how many where it isn't told, 16 MiB.
+/// The most bytes of memory that they may take, a tebibyte, and how many where it isn't told, 16
+/// MiB.
 pub(crate) const MOST_BACKLOG_BYTES: u64 = 1 << 40;
 
 pub(crate) const USUAL_BACKLOG_BYTES: u64 = 1 << 24;

@@ -6,8 +6,8 @@
 //! TCP. Both end with status 0, also after help, with 2 where the arguments or the standard streams
 //! can't be used, with 3 where a server's history differs from what its lines read and wrote, and
 //! else with 1 after the first fault met, which is told on standard error. `jsp client ADDR` makes
-//! requests of a server, and ends with 1 where one was refused too; `jsp client --status ADDR` prints
-//! what a server shows.
+//! requests of a server, and ends with 1 where one was refused too; `jsp client --status ADDR`
+//! prints what a server shows.
 #![tactic(auto)]
 
 mod arguments;

@@ -4,7 +4,7 @@ ghost use Rattle.std.specs.Io.{ReadsAtMost};
 
 use crate::frames::Frames;
 use crate::idle::Idle;
-use jsp_board::{Figures, Traffic};
+use jsp_board::{Activity, Traffic};
 use jsp_floor::{Hangup, LineEnd};
 use jsp_log::{Cause, Notice, ServerLog};
 use std::alloc::Global;
@@ -29,7 +29,7 @@ struct Link<'a, T> {
     stream: TcpStream,
     traffic: &'a Traffic,
     log: &'a ServerLog,
-    figures: Arc<Figures>,
+    activity: Arc<Activity>,
     /// How long it has made no request.
     idle: Idle,
 }
@@ -37,7 +37,7 @@ struct Link<'a, T> {
 impl<T: Clock> Link<'_, T> {
     /// How long the next call may take, where that is bounded: zero where no time is left.
     fn time_left(&self) -> io::Result<Option<Duration>> {
-        self.idle.left(self.system, &self.figures.requests)
+        self.idle.left(self.system, &self.activity.requests)
     }
 }
 
@@ -55,13 +55,13 @@ pub(crate) fn halves<'a, T: Clock>(
 ) -> Option<(Incoming<'a, T>, Outgoing<'a, T>, Connection<'a, T>)> {
     stream.set_nodelay(true).ok()?;
     let idle = Idle::new(system, idle).ok()?;
-    let figures = Figures::new(address, Instant::now(system).ok()?);
+    let activity = Activity::new(address, Instant::now(system).ok()?);
     let link = Link {
         system,
         stream,
         traffic,
         log,
-        figures: Arc::new(alloc, figures).ok()?,
+        activity: Arc::new(alloc, activity).ok()?,
         idle,
     };
     let link = Arc::new(alloc, link).ok()?;
@@ -179,7 +179,7 @@ impl<T: Clock> Write for Outgoing<'_, T> {
         match written {
             Ok(count @ 1..) => {
                 let answers = self.frames.count_answers(&bytes[..count]);
-                self.link.figures.add_answers(answers);
+                self.link.activity.add_answers(answers);
             }
             _ if bytes.is_empty() => {}
             _ => {
@@ -216,31 +216,31 @@ impl<T: Clock + Eprint + Wait> Hangup for Connection<'_, T> {
     }
 
     fn requests(&self) -> &AtomicU64 {
-        &self.0.figures.requests
+        &self.0.activity.requests
     }
 
     fn silent(&self) -> u64 {
-        self.0.idle.silent(self.0.system, &self.0.figures.requests)
+        self.0.idle.silent(self.0.system, &self.0.activity.requests)
     }
 
     fn opened(&self, session: u64) {
-        let figures = &self.0.figures;
-        figures.set_session(session);
-        self.0.traffic.open(self.0.system, figures);
+        let activity = &self.0.activity;
+        activity.set_session(session);
+        self.0.traffic.open(self.0.system, activity);
         self.0.log.write(
             self.0.system,
             Notice::Opened {
                 connection: session,
-                address: figures.address,
+                address: activity.address,
             },
         );
     }
 
     fn ended(&self, why: LineEnd) {
-        let figures = &self.0.figures;
-        let address = figures.address;
+        let activity = &self.0.activity;
+        let address = activity.address;
         let why = self.cause(why);
-        let connection = figures.session();
+        let connection = activity.session();
         if connection == 0 {
             self.0
                 .log
@@ -253,7 +253,7 @@ impl<T: Clock + Eprint + Wait> Hangup for Connection<'_, T> {
             Notice::Ended {
                 connection,
                 address,
-                requests: figures.requests(),
+                requests: activity.requests(),
                 why,
             },
         );

@@ -18,8 +18,8 @@ impl Behind {
         }
     }
 
-    /// Reads the next byte, and answers the number of its line where that turns out by it to ask something: it is neither
-    /// empty nor a comment.
+    /// Reads the next byte, and answers the number of its line where that turns out by it to ask
+    /// something: it is neither empty nor a comment.
     pub(crate) fn next(&mut self, byte: u8) -> Option<u64> {
         if byte == b'\n' {
             *self = Behind::new(self.number);

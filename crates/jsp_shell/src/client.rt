@@ -23,7 +23,8 @@ pub struct Client {
 }
 
 impl Client {
-    /// Connects to a server. What it says is printed on `out`, and what is refused told on `faults` too.
+    /// Connects to a server. What it says is printed on `out`, and what is refused told on `faults`
+    /// too.
     pub fn connect<R: AllocGlobal + Net<Stream = TcpStream>>(
         rt: &R,
         address: &str,
@@ -56,7 +57,8 @@ impl Client {
         self.session.end_request(rt)
     }
 
-    /// Prints what the server says until the session is left, and answers whether anything was refused.
+    /// Prints what the server says until the session is left, and answers whether anything was
+    /// refused.
     pub fn run<R: Wait>(self, rt: &R) -> Result<Refused, ShellFault> {
         match self.read_all(rt) {
             Ok(()) => self.session.close(rt),

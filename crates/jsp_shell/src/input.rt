@@ -26,7 +26,8 @@ impl<R: Read + Drop> Lines<R> {
         self.number
     }
 
-    /// The next line, or none at the end. One that is too long is passed over. After another fault no more can be read.
+    /// The next line, or none at the end. One that is too long is passed over. After another fault
+    /// no more can be read.
     pub(crate) fn next(&mut self) -> Result<Option<Vec<u8>>, NotSent> {
         self.number = self.number.saturating_add(1);
         let mut line = Vec::new(self.alloc);
@@ -52,8 +53,8 @@ impl<R: Read + Drop> Lines<R> {
         !self.reader.buffer().is_empty()
     }
 
-    /// The next bytes, which are those that were read ahead, or else those of one read, no bytes where it was interrupted.
-    /// None at the end, or where no more can be read.
+    /// The next bytes, which are those that were read ahead, or else those of one read, no bytes
+    /// where it was interrupted. None at the end, or where no more can be read.
     pub(crate) fn piece(&mut self) -> Option<&[u8]> {
         match self.reader.fill_buf() {
             Ok(bytes) if bytes.is_empty() => None,
@@ -68,7 +69,8 @@ impl<R: Read + Drop> Lines<R> {
         self.reader.consume(bytes);
     }
 
-    /// Reads more of a line, and answers whether it has ended. Of one that is too long no more is kept.
+    /// Reads more of a line, and answers whether it has ended. Of one that is too long no more is
+    /// kept.
     fn read_some(&mut self, line: &mut Vec<u8>) -> Result<bool, NotSent> {
         let bytes = match self.reader.fill_buf() {
             Ok(bytes) => bytes,

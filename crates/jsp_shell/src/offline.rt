@@ -6,7 +6,8 @@ use jsp_forms::{Line, read_line};
 use std::alloc::Global;
 use std::io::{Stderr, Stdout};
 
-/// Prints how requests are written, by a line as `help` or `help take`, and answers whether that wasn't understood.
+/// Prints how requests are written, by a line as `help` or `help take`, and answers whether that
+/// wasn't understood.
 pub fn show_help(
     alloc: Global,
     line: &str,

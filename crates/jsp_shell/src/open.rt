@@ -74,8 +74,8 @@ impl Open {
         }
     }
 
-    /// Whether the next line waits for its answer: what the line means may hang on the classes that are known by then, and
-    /// what it prints isn't to stand within a listing.
+    /// Whether the next line waits for its answer: what the line means may hang on the classes that
+    /// are known by then, and what it prints isn't to stand within a listing.
     pub(crate) fn holds_up(&self) -> bool {
         matches!(self.task, Task::Learn(_) | Task::List(_))
     }

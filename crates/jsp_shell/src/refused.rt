@@ -6,8 +6,9 @@ ghost use Rattle.jsp_shell.specs.Refused.{has_fault, any_has_fault, counts_as_re
 use serde_json::Value as Json;
 use std::marker::Model;
 
-/// Whether anything was refused so far: a line for which nothing was sent, an answer, or a request that had none; and, where
-/// an entry must be found, a search that found none. Contracts see it as that.
+/// Whether anything was refused so far: a line for which nothing was sent, an answer, or a request
+/// that had none; and, where an entry must be found, a search that found none. Contracts see it as
+/// that.
 #[derive(Drop)]
 pub struct Refused {
     any: bool,

@@ -8,8 +8,8 @@ use std::io::{Stderr, Stdout};
 /// What stands where a person may type a line.
 const PROMPT: &str = "jsp> ";
 
-/// Where a session prints and tells. What is printed while a prompt stands there begins on a line of its own, behind what
-/// is typed so far.
+/// Where a session prints and tells. What is printed while a prompt stands there begins on a line
+/// of its own, behind what is typed so far.
 #[derive(Drop)]
 pub(crate) struct Screen {
     alloc: Global,

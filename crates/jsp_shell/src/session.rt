@@ -1,8 +1,8 @@
 //! A connection and what its two threads share.
-use crate::desk::{Desk, Turn};
 use crate::fault::{NotSent, ShellFault};
 use crate::options::Options;
 use crate::refused::Refused;
+use crate::session_state::{SessionState, Turn};
 use jsp_forms::{Line, Purpose, Request, read_line};
 use jsp_frame::frame;
 use std::alloc::Global;
@@ -46,13 +46,14 @@ pub(crate) enum Taken {
 
 /// A connection and what its two threads share.
 ///
-/// The lock isn't held while a frame is sent: a server that waits until its answers are read may take no more. The thread
-/// that reads the connection sends only where the other doesn't: it is held up, or has ended.
+/// The lock isn't held while a frame is sent: a server that waits until its answers are read may
+/// take no more. The thread that reads the connection sends only where the other doesn't: it is
+/// held up, or has ended.
 #[derive(Drop)]
 pub(crate) struct Session {
     pub(crate) alloc: Global,
     pub(crate) stream: TcpStream,
-    desk: Mutex<Desk>,
+    state: Mutex<SessionState>,
     /// Notified at each answer.
     answered: Condvar,
 }
@@ -76,7 +77,7 @@ impl Session {
         let session = Session {
             alloc,
             stream,
-            desk: Mutex::new(Desk::new(alloc, options, out, faults)?),
+            state: Mutex::new(SessionState::new(alloc, options, out, faults)?),
             answered: Condvar::new(),
         };
         session.send(frame(alloc, HELLO)?.as_slice());
@@ -101,7 +102,7 @@ impl Session {
         let taken = match read_line(self.alloc, line) {
             Ok(Line::Nothing) => Taken::Done,
             Ok(Line::Help(text)) => {
-                self.desk.lock(rt).show(text.as_str())?;
+                self.state.lock(rt).show(text.as_str())?;
                 Taken::Done
             }
             Ok(Line::Request(request)) => self.take_request(rt, number, request)?,
@@ -123,7 +124,7 @@ impl Session {
         if purpose == Purpose::Quit {
             return Ok(Taken::Left(Exit::Quit));
         }
-        let asked = self.desk.lock(rt).ask(number, request);
+        let asked = self.state.lock(rt).ask(number, request);
         match asked {
             Ok(frame) if purpose == Purpose::Bye => Ok(Taken::Left(Exit::Bye(frame))),
             Ok(frame) => Ok(Taken::Asked(frame)),
@@ -139,17 +140,17 @@ impl Session {
         self.send(frame);
         let _ = self
             .answered
-            .wait_while(rt, self.desk.lock(rt), |desk| desk.is_held_up());
+            .wait_while(rt, self.state.lock(rt), |state| state.is_held_up());
     }
 
     /// A line was typed to its end.
     pub(crate) fn end_typed<R: Wait>(&self, rt: &R) {
-        self.desk.lock(rt).end_typed();
+        self.state.lock(rt).end_typed();
     }
 
     /// Shows a prompt behind a line that was done.
     pub(crate) fn prompt<R: Wait>(&self, rt: &R) -> Result<(), ShellFault> {
-        self.desk.lock(rt).prompt()
+        self.state.lock(rt).prompt()
     }
 
     /// Tells why nothing is sent for a line.
@@ -159,36 +160,37 @@ impl Session {
         number: u64,
         fault: NotSent,
     ) -> Result<(), ShellFault> {
-        self.desk.lock(rt).refuse(number, fault)
+        self.state.lock(rt).refuse(number, fault)
     }
 
-    /// Tells that nothing is sent for a line behind one that leaves the session, and answers whether more may be told.
+    /// Tells that nothing is sent for a line behind one that leaves the session, and answers
+    /// whether more may be told.
     pub(crate) fn refuse_left<R: Wait>(
         &self,
         rt: &R,
         number: u64,
         left_by: &'static str,
     ) -> Result<bool, ShellFault> {
-        self.desk.lock(rt).refuse_left(number, left_by)
+        self.state.lock(rt).refuse_left(number, left_by)
     }
 
     /// The input has ended: once all is answered the session is left.
     pub(crate) fn end_input<R: Wait>(&self, rt: &R) -> Result<(), ShellFault> {
-        let turn = self.desk.lock(rt).end_input()?;
+        let turn = self.state.lock(rt).end_input()?;
         self.take_turn(turn)?;
         Ok(())
     }
 
     /// The one request was asked: once it is answered the session is left, unless it is a watch.
     pub(crate) fn end_request<R: Wait>(&self, rt: &R) -> Result<(), ShellFault> {
-        let turn = self.desk.lock(rt).end_request()?;
+        let turn = self.state.lock(rt).end_request()?;
         self.take_turn(turn)?;
         Ok(())
     }
 
     /// Prints what the server says, and answers whether more is to come.
     pub(crate) fn take_answer<R: Wait>(&self, rt: &R, payload: &[u8]) -> Result<bool, ShellFault> {
-        let turn = self.desk.lock(rt).answer(payload)?;
+        let turn = self.state.lock(rt).answer(payload)?;
         self.answered.notify_one();
         self.take_turn(turn)
     }
@@ -206,17 +208,17 @@ impl Session {
 
     /// The input can't be read to its end: the connection is ended, which its reader sees.
     pub(crate) fn fail<R: Wait>(&self, rt: &R, fault: ShellFault) {
-        self.desk.lock(rt).fail(fault);
+        self.state.lock(rt).fail(fault);
         let _ = self.stream.shutdown(Shutdown::Both);
     }
 
     /// Why the session ended early, where this was met.
     pub(crate) fn why<R: Wait>(&self, rt: &R, met: ShellFault) -> ShellFault {
-        self.desk.lock(rt).why(met)
+        self.state.lock(rt).why(met)
     }
 
     /// Whether anything was refused, at the end.
     pub(crate) fn close<R: Wait>(&self, rt: &R) -> Result<Refused, ShellFault> {
-        self.desk.lock(rt).close()
+        self.state.lock(rt).close()
     }
 }

@@ -14,8 +14,9 @@ pub struct Typing {
 }
 
 impl Typing {
-    /// Sends what the lines of the input ask, until it ends, and tells of those that stand behind one that leaves the
-    /// session. Nobody needs to wait for it: once the session is left, or the connection breaks, nothing is asked any more.
+    /// Sends what the lines of the input ask, until it ends, and tells of those that stand behind
+    /// one that leaves the session. Nobody needs to wait for it: once the session is left, or the
+    /// connection breaks, nothing is asked any more.
     pub fn run<R: Wait, I: Read + Drop>(self, rt: &R, input: I) {
         let read = self.read_all(rt, input);
         if let Err(fault) = read.and_then(|()| self.session.end_input(rt)) {
@@ -52,8 +53,8 @@ impl Typing {
         Ok(())
     }
 
-    /// Leaves the session. Of the lines behind that those that were read with it are told before: so they are told whenever
-    /// the server answers. The others are told until then.
+    /// Leaves the session. Of the lines behind that those that were read with it are told before:
+    /// so they are told whenever the server answers. The others are told until then.
     fn leave<R: Wait, I: Read + Drop>(
         &self,
         rt: &R,
@@ -77,7 +78,8 @@ impl Typing {
         Ok(())
     }
 
-    /// Tells of the lines that begin in the next piece of the input, and answers whether more may be told.
+    /// Tells of the lines that begin in the next piece of the input, and answers whether more may
+    /// be told.
     fn tell_piece<R: Wait, I: Read + Drop>(
         &self,
         rt: &R,

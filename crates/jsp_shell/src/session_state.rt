@@ -1,4 +1,5 @@
-//! What the two threads of a session share: what is open, what was refused, and where lines are printed.
+//! What the two threads of a session share: what is open, what was refused, and where lines are
+//! printed.
 use crate::advice::{advice, refusal_of};
 use crate::fault::{NotSent, ShellFault};
 use crate::listing::MatchSet;
@@ -48,7 +49,7 @@ pub(crate) enum Turn {
 
 /// What the two threads of a session share.
 #[derive(Drop)]
-pub(crate) struct Desk {
+pub(crate) struct SessionState {
     alloc: Global,
     options: Options,
     screen: Screen,
@@ -65,17 +66,17 @@ pub(crate) struct Desk {
     fault: Option<ShellFault>,
 }
 
-impl Desk {
+impl SessionState {
     /// Before the first line, with the client's own request for version 2 open.
     pub(crate) fn new(
         alloc: Global,
         options: Options,
         out: Stdout,
         faults: Stderr,
-    ) -> Result<Desk, ShellFault> {
+    ) -> Result<SessionState, ShellFault> {
         let mut open = BTreeMap::new(alloc);
         open.insert(OWN, Open::own())?;
-        Ok(Desk {
+        Ok(SessionState {
             alloc,
             options,
             screen: Screen::new(alloc, out, faults, options.has_prompt),
@@ -163,7 +164,8 @@ impl Desk {
         self.fault = Some(fault);
     }
 
-    /// Why the session ended early: a fault of the input, which ends the connection, comes before what was met there.
+    /// Why the session ended early: a fault of the input, which ends the connection, comes before
+    /// what was met there.
     pub(crate) fn why(&mut self, met: ShellFault) -> ShellFault {
         self.fault.take().unwrap_or(met)
     }
@@ -215,7 +217,8 @@ impl Desk {
         self.screen.print(text)
     }
 
-    /// Takes an event, or an answer to none of the requests that are open, as that to the last `bye` is.
+    /// Takes an event, or an answer to none of the requests that are open, as that to the last
+    /// `bye` is.
     fn take_other(&mut self, id: Option<u64>, answer: &Json, text: &str) -> Result<(), ShellFault> {
         self.print(id, answer, text)?;
         self.refused.note_answer(answer);
@@ -270,7 +273,8 @@ impl Desk {
         Ok(())
     }
 
-    /// Prints the entries of a listing's page, and asks for what comes next, under the listing's id.
+    /// Prints the entries of a listing's page, and asks for what comes next, under the listing's
+    /// id.
     fn list(
         &mut self,
         id: u64,
@@ -349,8 +353,8 @@ impl Desk {
         self.screen.tell(line, fault)
     }
 
-    /// Tells that nothing is sent for a line behind one that leaves the session, unless that is closed: what is told counts
-    /// as refused. Answers whether more may be told.
+    /// Tells that nothing is sent for a line behind one that leaves the session, unless that is
+    /// closed: what is told counts as refused. Answers whether more may be told.
     pub(crate) fn refuse_left(
         &mut self,
         line: u64,

@@ -7,7 +7,7 @@ use std::time::{Clock, Instant};
 
 /// What is counted of a connection, for those who look at it from outside.
 #[derive(Drop)]
-pub struct Figures {
+pub struct Activity {
     pub address: SocketAddr,
     start: Instant,
     /// The number of its session, 0 before it has one.
@@ -18,10 +18,10 @@ pub struct Figures {
     answers: AtomicU64,
 }
 
-impl Figures {
+impl Activity {
     /// Those of a connection that begins.
-    pub fn new(address: SocketAddr, start: Instant) -> Figures {
-        Figures {
+    pub fn new(address: SocketAddr, start: Instant) -> Activity {
+        Activity {
             address,
             start,
             session: AtomicU64::new(0),
