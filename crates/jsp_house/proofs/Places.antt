@@ -1,9 +1,8 @@
 -- What the limits of a state give to the choice of a step: its lists rise, its requests ask for a row, and a place that
 -- is no space's is quiet.
-use Rattle.std.proofs.Common.{◌≡◌, refl, ℕ, zero, suc, ◌+◌, ◌<◌, ◌≤◌, List, [], ◌∷◌, length, Bool, true, false, not, ◌&&◌, ◌||◌, inl, inr, Option, Some, None, ◌==◌, nat_lt, arith}
-use Rattle.std.specs.Prelude.{find, IfSome, IfNone}
-use Rattle.std.specs.List.{list_all, range_with_len}
-use Rattle.std.proofs.lemmas.Bool.{and_parts, and_from, leb-true, ltb-true, ltb-false, eqb-true, eqb-false, eq-eqb, ne_eqb, or_right}
+use Rattle.std.proofs.Common.{◌≡◌, refl, ℕ, ◌<◌, ◌≤◌, List, [], ◌∷◌, length, Bool, true, false, not, ◌&&◌, ◌||◌, inl, inr, ◌==◌, nat_lt, arith}
+use Rattle.std.specs.List.{list_all}
+use Rattle.std.proofs.lemmas.Bool.{and_parts, and_from, leb-true, ltb-true, ltb-false, eq-eqb, ne_eqb, or_right}
 use Rattle.jsp_model.specs.declared.state.State.{State}
 use Rattle.jsp_model.specs.declared.state.Row.{Row}
 use Rattle.jsp_model.specs.declared.state.Registration.{Registration}
@@ -13,22 +12,11 @@ use Rattle.jsp_model.specs.declared.state.MatchSet.{MatchSet}
 use Rattle.jsp_model.specs.Lookup.{contains}
 use Rattle.jsp_model.specs.Limits.{IsWithinLimits, is_blocked, is_registration}
 use Rattle.jsp_model.specs.Quiet.{must_wait, is_quiet, are_quiet}
-use Rattle.jsp_model.specs.Settling.{places}
-use Rattle.jsp_laws.proofs.Lists.{Has, each_weaker, each_by_all, each_has, each_numbers, found_has}
+use Rattle.jsp_laws.proofs.Lists.{Has, each_weaker, each_by_all, each_has, each_numbers}
 use Rattle.jsp_laws.proofs.Rising.{IsRising}
 use Rattle.jsp_quiet.specs.Quieting.{AllAskForSome}
-use Rattle.jsp_quiet.proofs.Lists.{all_has, find_none}
+use Rattle.jsp_quiet.proofs.Lists.{all_has}
 use Rattle.jsp_house.proofs.LeastRows.{all_rising}
-
--- ---- lists
-
-in_range : (a n q : ℕ) → a ≤ q → q < a + n → Has (range_with_len a n) q
-in_range a zero q low high = absurd (omega (arith, low, high))
-in_range a (suc n) q low high = go (a == q) refl (λ d. in_range (a + 1) n q (omega (arith, low, d)) (omega (arith, high)))
-  where
-    go : (b : Bool) → (a == q) ≡ b → ((a ≡ q → ⊥) → Has (range_with_len (a + 1) n) q) → Has (a ∷ range_with_len (a + 1) n) q
-    go true k ih = inl (eqb-true a q k)
-    go false k ih = inr (ih (eqb-false a q k))
 
 -- ---- what the limits give
 
@@ -68,50 +56,23 @@ quiet_beyond st p h far =
 
 -- ---- which space isn't quiet
 
--- of these spaces
-pub none_unquiet_of : (st : State) (spaces : List ℕ) → IsWithinLimits st → find (λ p. contains spaces p && not (is_quiet st p)) (places st) ≡ None → are_quiet st spaces ≡ true
-none_unquiet_of st spaces h none = all_has (is_quiet st) spaces (λ p k. at p k (nat_lt p (length st.spaces)) refl)
+has_contains : (ns : List ℕ) (n : ℕ) → Has ns n → contains ns n ≡ true
+has_contains [] n h = absurd h
+has_contains (m ∷ ns) n (inl e) = let w : (m == n) ≡ true = eq-eqb m n e in rw w refl
+has_contains (m ∷ ns) n (inr h) = or_right (m == n) (contains ns n) (has_contains ns n h)
+
+-- all of these spaces are quiet, where each place is that is among them
+pub all_quiet_of : (st : State) (spaces : List ℕ) → IsWithinLimits st → ((p : ℕ) → p < length st.spaces → contains spaces p ≡ true → is_quiet st p ≡ true) → are_quiet st spaces ≡ true
+all_quiet_of st spaces h each = all_has (is_quiet st) spaces (λ p k. at p k (nat_lt p (length st.spaces)) refl)
   where
-    unfound : (a b : Bool) → a ≡ true → (a && not b) ≡ false → b ≡ true
-    unfound true true e k = refl
-    unfound true false e k = absurd (cc)
-    unfound false b e k = absurd (cc)
-
-    has_contains : (ns : List ℕ) (n : ℕ) → Has ns n → contains ns n ≡ true
-    has_contains [] n h = absurd h
-    has_contains (m ∷ ns) n (inl e) = let w : (m == n) ≡ true = eq-eqb m n e in rw w refl
-    has_contains (m ∷ ns) n (inr h) = or_right (m == n) (contains ns n) (has_contains ns n h)
-
     at : (p : ℕ) → Has spaces p → (b : Bool) → nat_lt p (length st.spaces) ≡ b → is_quiet st p ≡ true
-    at p k true e =
-        unfound (contains spaces p) (is_quiet st p) (has_contains spaces p k)
-        (find_none (λ p. contains spaces p && not (is_quiet st p)) (places st) p none (in_range 0 (length st.spaces) p (omega arith) (omega (arith, ltb-true p (length st.spaces) e))))
+    at p k true e = each p (ltb-true p (length st.spaces) e) (has_contains spaces p k)
     at p k false e = quiet_beyond st p h (ltb-false p (length st.spaces) e)
 
--- the space that was found isn't quiet
-pub found_unquiet : (st : State) (spaces : List ℕ) (p : ℕ) → find (λ p. contains spaces p && not (is_quiet st p)) (places st) ≡ Some p → is_quiet st p ≡ true → ⊥
-found_unquiet st spaces p found quiet = clash (is_quiet st p) quiet (and_parts (contains spaces p) (not (is_quiet st p)) (found_has (λ p. contains spaces p && not (is_quiet st p)) (places st) p found).1).1
+-- not all of them are, where one isn't
+pub one_unquiet_of : (st : State) (spaces : List ℕ) (p : ℕ) → contains spaces p ≡ true → is_quiet st p ≡ false → are_quiet st spaces ≡ false
+one_unquiet_of st spaces p there unquiet = go (are_quiet st spaces) refl
   where
-    clash : (b : Bool) → b ≡ true → not b ≡ true → ⊥
-    clash true e k = cc (k)
-    clash false e k = cc (e)
-
--- so there is a step that quiets it
-pub always_some : {A : Type 0} (st : State) (spaces : List ℕ) (p : ℕ) (o : Option A) → find (λ p. contains spaces p && not (is_quiet st p)) (places st) ≡ Some p → IfNone o (is_quiet st p ≡ true) → IfNone o (are_quiet st spaces ≡ true)
-always_some st spaces p None found h = absurd (found_unquiet st spaces p found h)
-always_some st spaces p (Some x) found h = tt
-
--- so not all of them are quiet
-pub some_unquiet_of : (st : State) (spaces : List ℕ) (p : ℕ) → find (λ q. contains spaces q && not (is_quiet st q)) (places st) ≡ Some p → are_quiet st spaces ≡ false
-some_unquiet_of st spaces p found = go (are_quiet st spaces) refl
-  where
-    there : contains spaces p ≡ true
-    there = (and_parts (contains spaces p) (not (is_quiet st p)) (found_has (λ q. contains spaces q && not (is_quiet st q)) (places st) p found).1).0
-
     go : (b : Bool) → are_quiet st spaces ≡ b → b ≡ false
     go false e = refl
-    go true e = absurd (found_unquiet st spaces p found (each_numbers (is_quiet st) spaces p e there))
-
-pub if_some : {A P : Type 0} (o : Option A) → P → IfSome o (λ s. P)
-if_some None p = tt
-if_some (Some x) p = p
+    go true e = absurd (cc (each_numbers (is_quiet st) spaces p e there, unquiet))

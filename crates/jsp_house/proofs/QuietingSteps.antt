@@ -15,7 +15,7 @@ use Rattle.jsp_model.specs.Lookup.{registration_of}
 use Rattle.jsp_model.specs.House.{all_must_wait, comes_in_turn}
 use Rattle.std.specs.Prelude.{Option}
 use Rattle.std.specs.Option.{option_map_or}
-use Rattle.jsp_laws.proofs.Lists.{Has, each_any, each_has, each_itself, found_has}
+use Rattle.jsp_laws.proofs.Lists.{Has, each_any, each_by_all, each_has, each_itself, found_has}
 use Rattle.jsp_quiet.proofs.Progress.{can_grant, can_empty, can_tell, find_only}
 use Rattle.jsp_quiet.proofs.Lists.{all_has, find_none}
 use Rattle.jsp_house.proofs.Places.{limits_rising, limits_some}
@@ -95,6 +95,38 @@ unfolding is_quiet
 nobody_left st p waits owes =
     and_from (list_all (λ b. not (b.space == p) || must_wait st b) st.blocked) (list_all (λ r. not (r.space == p) || length r.owed == 0) st.registrations)
     (none_left (λ (b : Blocked). b.space == p) (must_wait st) st.blocked waits) owes
+
+-- ---- a space that has such a step isn't quiet
+
+-- one is here that isn't done
+one_left : {A : Type 0} (here done : A → Bool) (xs : List A) (x : A) → Has xs x → (here x && not (done x)) ≡ true → list_all (λ y. not (here y) || done y) xs ≡ true → ⊥
+one_left here done xs x there left all = clash (here x) (done x) left (each_has (λ y. (not (here y) || done y) ≡ true) xs x (each_by_all (λ y. not (here y) || done y) xs all) there)
+  where
+    clash : (a b : Bool) → (a && not b) ≡ true → (not a || b) ≡ true → ⊥
+    clash true true h k = cc h
+    clash true false h k = cc k
+    clash false b h k = cc h
+
+unquiet : (st : State) (p : ℕ) → (list_all (λ b. not (b.space == p) || must_wait st b) st.blocked ≡ true → list_all (λ r. not (r.space == p) || length r.owed == 0) st.registrations ≡ true → ⊥) → is_quiet st p ≡ false
+unfolding is_quiet
+unquiet st p left = go (is_quiet st p) refl
+  where
+    go : (b : Bool) → is_quiet st p ≡ b → b ≡ false
+    go false e = refl
+    go true e =
+        let parts = and_parts (list_all (λ b. not (b.space == p) || must_wait st b) st.blocked) (list_all (λ r. not (r.space == p) || length r.owed == 0) st.registrations) e in
+        absurd (left parts.0 parts.1)
+
+pub released_unquiet : (st : State) (p : ℕ) (b : Blocked) → find (released st p) st.blocked ≡ Some b → is_quiet st p ≡ false
+released_unquiet st p b found =
+    let k = found_has (released st p) st.blocked b found in
+    unquiet st p (λ waits owes. one_left (λ (c : Blocked). c.space == p) (must_wait st) st.blocked b k.0 k.1 waits)
+
+pub owed_unquiet : (st : State) (p n : ℕ) → owes_number st p n ≡ true → is_quiet st p ≡ false
+owed_unquiet st p n some =
+    let (r, h, w) = each_any (Has st.registrations) (λ r. r.number == n && is_owed p r) st.registrations (each_itself st.registrations) some in
+    let parts = and_parts (r.number == n) (is_owed p r) w in
+    unquiet st p (λ waits owes. one_left (λ (q : Registration). q.space == p) (λ (q : Registration). length q.owed == 0) st.registrations r h parts.1 owes)
 
 -- ---- events come last
 

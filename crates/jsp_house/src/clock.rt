@@ -2,7 +2,7 @@
 ghost use Rattle.std.specs.Prelude.{◌≡◌, ◌≤◌};
 
 use crate::applying::apply_unless_cleared;
-use crate::unquiet::first_unquiet_of;
+use crate::unquiet::are_quiet;
 use jsp_audit::{first_end, touches};
 use jsp_core::LiveImage;
 use jsp_model::{Item, Step};
@@ -34,5 +34,5 @@ fn may_end(alloc: Global, image: &mut LiveImage, item: Item) -> bool
         return true;
     };
     apply_unless_cleared(image, spaces.as_slice());
-    first_unquiet_of(image, spaces.as_slice()).is_none()
+    are_quiet(image, spaces.as_slice())
 }

@@ -14,9 +14,8 @@ ghost use Rattle.jsp_house.specs.Owing.{IsDone};
 use crate::applying::apply_touched;
 use crate::making::make;
 use crate::owing::owe;
-use crate::quieting::quieting_step;
+use crate::quieting::quieting_of;
 use crate::to_come::Coming;
-use crate::unquiet::first_unquiet_of;
 use jsp_audit::{due, touches};
 use jsp_core::LiveImage;
 use jsp_lease::Item;
@@ -133,18 +132,4 @@ fn quieting_for<T: Coming>(
 {
     let spaces = coming.touches(alloc, image)?;
     quieting_of(alloc, image, spaces.as_slice())
-}
-
-/// A step that quiets one of these spaces, the first one in the configured order that isn't quiet.
-fn quieting_of(alloc: Global, image: &LiveImage, spaces: &[u64]) -> Result<Option<Step>, NoMemory>
-    ensures legal { IfOk result (λ o. IfSome o (λ s. IsTrue (is_legal image.now s))) }
-    ensures quiets { IfOk result (λ o. IfSome o (λ s. IsTrue (quiets s))) }
-    ensures turn { IfOk result (λ o. IfSome o (λ s. (owed : List ℕ) → IsTrue (comes_in_turn image.now owed s))) }
-    ensures some { IfOk result (λ o. IfSome o (λ s. IsFalse (are_quiet image.now spaces.now))) }
-    ensures none { IfOk result (λ o. IfNone o (IsTrue (are_quiet image.now spaces.now))) }
-{
-    match first_unquiet_of(image, spaces) {
-        None => Ok(None),
-        Some(space) => quieting_step(alloc, image, space),
-    }
 }

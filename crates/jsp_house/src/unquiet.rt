@@ -1,13 +1,19 @@
 //! Which space is to be made quiet next.
-ghost use Rattle.std.specs.Prelude.{◌≡◌, ◌&&◌, not, find};
-ghost use Rattle.jsp_model.specs.Lookup.{contains as has};
-ghost use Rattle.jsp_model.specs.Quiet.{is_quiet as quiet};
+ghost use Rattle.std.specs.Prelude.{◌≡◌, length};
+ghost use Rattle.jsp_model.specs.Quiet.{are_quiet as all_quiet};
 ghost use Rattle.jsp_model.specs.Limits.{IsWithinLimits};
-ghost use Rattle.jsp_model.specs.Settling.{places, first_unquiet as first_of_all};
+ghost use Rattle.jsp_model.specs.Settling.{first_unquiet as first_of_all};
 
 use jsp_audit::is_quiet;
 use jsp_core::LiveImage;
-use jsp_state::contains;
+
+/// How many spaces there are.
+pub(crate) fn count_spaces(image: &LiveImage) -> u64
+    ensures count { result ≡ length image.now.spaces }
+    ensures limits { IsWithinLimits image.now }
+{
+    image.state().spaces.as_slice().len() as u64
+}
 
 /// The first space, in the configured order, that isn't quiet.
 pub(crate) fn first_unquiet(image: &LiveImage) -> Option<u64>
@@ -32,11 +38,9 @@ pub(crate) fn first_to_quiet(image: &mut LiveImage) -> Option<u64>
     first_unquiet(image)
 }
 
-/// The first of these spaces, in the configured order, that isn't quiet.
-pub(crate) fn first_unquiet_of(image: &LiveImage, spaces: &[u64]) -> Option<u64>
-    ensures found { result ≡ find (λ p. has spaces.now p && not (quiet image.now p)) (places image.now) }
-    ensures limits { IsWithinLimits image.now }
+/// Whether each of these spaces is quiet.
+pub(crate) fn are_quiet(image: &LiveImage, spaces: &[u64]) -> bool
+    ensures { result ≡ all_quiet image.now spaces.now }
 {
-    let count = image.state().spaces.as_slice().len() as u64;
-    (0..count).find(|space| contains(spaces, *space) && !is_quiet(image, *space))
+    spaces.iter().all(|space| is_quiet(image, *space))
 }
