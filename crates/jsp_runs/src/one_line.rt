@@ -1,16 +1,17 @@
 //! One line over a floor: how often it is read, and where the comparison passes that it is cut.
-ghost use Rattle.std.specs.Prelude.{◌≡◌, ◌+◌, ◌^◌, true};
-ghost use Rattle.jsp_closing.specs.Closing.{IsAtRest};
+ghost use Rattle.std.specs.Prelude.{◌≡◌, ◌+◌, ◌^◌, true, IfSome};
+ghost use Rattle.jsp_closing.specs.Closing.{IsAtRest, RestsAfter};
 
-use crate::lines::{Connected, SOUND, Talk, door};
+use crate::lines::{Connected, Incoming, Outgoing, SOUND, Talk, door};
 use crate::serving::{ERA, sees};
 use crate::spaces::two_spaces;
 use crate::talks::{QUIET, SPACES};
 use crate::watch::{Dial, Watch, watch_of};
 use jsp_closing::close;
+use jsp_drive::Era;
 use jsp_floor::{Closed, Ended, Floor, Left, LineDone, LineReport, RunFault, Shared, ShutFor};
 use jsp_house::RowsHouse;
-use jsp_kept::Kept;
+use jsp_kept::{InParts, Kept};
 use jsp_model::{Config, House, Settled};
 use std::alloc::Global;
 use std::io::{Read, Write};
@@ -31,6 +32,79 @@ const MANY: [Talk; 1] = [Talk {
     ..QUIET
 }];
 
+// Whether a line's session is shut before its first request, and by whom.
+#[derive(Clone, Copy)]
+enum Shut {
+    Never,
+    ByLine,
+    ByHouse(ShutFor),
+}
+
+// A floor over an empty house of two spaces.
+fn floor_of<A: Ledger, O: Ledger>(
+    alloc: Global,
+    config: &Config,
+    asks: Blank,
+    outs: Blank,
+) -> Result<Floor<RowsHouse, A, O>, Fail>
+    requires asks { (asks.name ≡ A.name) × (asks.parts ≡ A.parts) × (A.parts ≡ 2 ^ 31 + 1) }
+    requires outs { (outs.name ≡ O.name) × (outs.parts ≡ O.parts) × (O.parts ≡ 2 ^ 31 + 1) }
+{
+    let house = RowsHouse::new(alloc, config)?;
+    let kept = Kept::<RowsHouse, A, O>::new(alloc, house, config, ERA, asks, outs)?;
+    Ok(Floor::new(alloc, kept, 1, u64::MAX, u64::MAX, u64::MAX)?)
+}
+
+// Serves a line of these frames, which may be read eight times, over a floor. Answers what it read
+// and wrote, and how it left.
+fn serve_over<
+    'w,
+    'a,
+    H: InParts + Send,
+    A: Ledger + Send + Sync,
+    O: Ledger + Send + Sync,
+    T: Threads + Wait + time::Clock + Sync,
+>(
+    rt: &T,
+    alloc: Global,
+    watch: &'w Watch<'a, T>,
+    floor: &Floor<H, A, O>,
+    talks: &[Talk],
+    shut: Shut,
+) -> Result<
+    (
+        LineDone<A, O, Incoming<'w, 'a, T>, Outgoing<'w, 'a, T>>,
+        Left,
+    ),
+    Fail,
+> {
+    let dial = Dial { watch, noon: None };
+    let shared = Shared {
+        rt,
+        alloc,
+        floor,
+        gate: watch,
+        clock: &dial,
+    };
+    let Ok((asks, outs)) = floor.begin(rt) else {
+        return Err(Fail::new("no session"));
+    };
+    let session = asks.session();
+    match shut {
+        Shut::Never => {}
+        Shut::ByLine => floor.shut(rt, session),
+        Shut::ByHouse(why) => floor.shut_for(rt, session, why),
+    }
+    let Some((incoming, outgoing)) = door(alloc, watch, talks, SOUND)?.left.pop() else {
+        return Err(Fail::new("no line"));
+    };
+    let hangup = Connected {
+        requests: AtomicU64::new(0),
+    };
+    let done = shared.serve_line(incoming, outgoing, &hangup, asks, outs, 8);
+    Ok((done, floor.leave(rt, session)))
+}
+
 // Serves a line that may be read eight times. Answers how it ended, how often it was read, and how
 // many of its requests were acted.
 fn read_eight_times<
@@ -48,27 +122,10 @@ fn read_eight_times<
     requires outs { (outs.name ≡ O.name) × (outs.parts ≡ O.parts) × (O.parts ≡ 2 ^ 31 + 1) }
 {
     let config = two_spaces(alloc)?;
-    let house = RowsHouse::new(alloc, &config)?;
-    let kept = Kept::<RowsHouse, A, O>::new(alloc, house, &config, ERA, asks, outs)?;
-    let floor = Floor::new(alloc, kept, 1, u64::MAX, u64::MAX, u64::MAX)?;
-    let dial = Dial { watch, noon: None };
-    let shared = Shared {
-        rt,
-        alloc,
-        floor: &floor,
-        gate: watch,
-        clock: &dial,
-    };
-    let Ok((asks, outs)) = floor.begin(rt) else {
-        return Err(Fail::new("no session"));
-    };
-    let Some((incoming, outgoing)) = door(alloc, watch, &MANY, SOUND)?.left.pop() else {
-        return Err(Fail::new("no line"));
-    };
-    let hangup = Connected {
-        requests: AtomicU64::new(0),
-    };
-    let done = shared.serve_line(incoming, outgoing, &hangup, asks, outs, 8);
+    let floor = floor_of::<A, O>(alloc, &config, asks, outs)?;
+    let served = serve_over(rt, alloc, watch, &floor, &MANY, Shut::Never);
+    drop(floor);
+    let (done, _left) = served?;
     Ok((done.read.ended, done.reader.reads, done.read.seat.count()))
 }
 
@@ -93,24 +150,16 @@ fn is_at_rest<H: House, A: Ledger, O: Ledger>(kept: &mut Kept<H, A, O>) -> bool
     matches!(kept.settle(), Ok(Settled::Idle)) && !kept.is_voting()
 }
 
-// What the comparison says of a history of one line.
-fn compares<H: House, A: Ledger, O: Ledger>(
-    alloc: Global,
-    config: &Config,
-    kept: Kept<H, A, O>,
-    line: LineReport,
-) -> Result<Result<Closed, RunFault>, Fail> {
+// The history's era, where it is at rest and of the config.
+fn end_of<H: House, A: Ledger, O: Ledger>(config: &Config, kept: Kept<H, A, O>) -> Option<Era>
+    ensures { IfSome result (RestsAfter config.now) }
+{
     let mut kept = kept;
-    if !is_at_rest(&mut kept) {
-        return Err(Fail::new("not at rest"));
-    }
-    if !kept.is_of(config) {
-        return Err(Fail::new("another config"));
-    }
+    let rests = is_at_rest(&mut kept);
+    let is_same = kept.is_of(config);
     kept.holds();
-    let mut lines = Vec::new(alloc);
-    lines.push(line)?;
-    Ok(close(alloc, config, kept.into_era(), lines, 0))
+    let era = kept.into_era();
+    if rests && is_same { Some(era) } else { None }
 }
 
 // What a line read and wrote, where all of it was kept.
@@ -139,8 +188,8 @@ fn report<A: Ledger, O: Ledger, R: Read + Drop, W: Write + Drop>(
     })
 }
 
-// Serves a line whose session is shut before its first request: by the line itself, or by the floor
-// for this reason. Answers what the comparison says of that.
+// Serves a line whose session is shut before its first request. Answers what the comparison says of
+// that.
 fn shut_early<
     A: Ledger + Send + Sync,
     O: Ledger + Send + Sync,
@@ -151,51 +200,32 @@ fn shut_early<
     watch: &Watch<'_, T>,
     asks: Blank,
     outs: Blank,
-    why: Option<ShutFor>,
+    shut: Shut,
 ) -> Result<Result<Closed, RunFault>, Fail>
     requires asks { (asks.name ≡ A.name) × (asks.parts ≡ A.parts) × (A.parts ≡ 2 ^ 31 + 1) }
     requires outs { (outs.name ≡ O.name) × (outs.parts ≡ O.parts) × (O.parts ≡ 2 ^ 31 + 1) }
 {
     let config = two_spaces(alloc)?;
-    let house = RowsHouse::new(alloc, &config)?;
-    let kept = Kept::<RowsHouse, A, O>::new(alloc, house, &config, ERA, asks, outs)?;
-    let floor = Floor::new(alloc, kept, 1, u64::MAX, u64::MAX, u64::MAX)?;
-    let dial = Dial { watch, noon: None };
-    let shared = Shared {
-        rt,
-        alloc,
-        floor: &floor,
-        gate: watch,
-        clock: &dial,
+    let floor = floor_of::<A, O>(alloc, &config, asks, outs)?;
+    let served = serve_over(rt, alloc, watch, &floor, &[SPACES], shut);
+    let era = end_of(&config, floor.into_kept());
+    let (done, left) = served?;
+    let Some(era) = era else {
+        return Err(Fail::new("not at rest"));
     };
-    let Ok((asks, outs)) = floor.begin(rt) else {
-        return Err(Fail::new("no session"));
-    };
-    let session = asks.session();
-    match why {
-        Some(why) => floor.shut_for(rt, session, why),
-        None => floor.shut(rt, session),
-    }
-    let Some((incoming, outgoing)) = door(alloc, watch, &[SPACES], SOUND)?.left.pop() else {
-        return Err(Fail::new("no line"));
-    };
-    let hangup = Connected {
-        requests: AtomicU64::new(0),
-    };
-    let done = shared.serve_line(incoming, outgoing, &hangup, asks, outs, 8);
-    let left = floor.leave(rt, session);
     let Some(line) = report(done, left) else {
         return Err(Fail::new("not all was kept"));
     };
-    drop(shared);
-    compares(alloc, &config, floor.into_kept(), line)
+    let mut lines = Vec::new(alloc);
+    lines.push(line)?;
+    Ok(close(alloc, &config, era, lines, 0))
 }
 
 // The same, and how the line ended where the comparison passes it.
 fn shut_by<T: Threads + Wait + time::Clock + Sync>(
     rt: &T,
     alloc: Global,
-    why: Option<ShutFor>,
+    shut: Shut,
 ) -> Result<Option<Ended>, Fail> {
     let watch = watch_of(rt, alloc, &[])?;
     let closed = shut_early::<Brand, Brand, _>(
@@ -204,7 +234,7 @@ fn shut_by<T: Threads + Wait + time::Clock + Sync>(
         &watch,
         Blank::new(PARTS),
         Blank::new(PARTS),
-        why,
+        shut,
     )?;
     match closed {
         Ok(Closed::Whole { lines, .. }) => Ok(lines.get(0).map(|line| line.ended)),
@@ -222,8 +252,11 @@ fn a_line_is_cut_only_where_the_house_shut_it(rt: HostRuntime) -> Result<(), Fai
         ShutFor::Ending,
         ShutFor::Silent,
     ] {
-        assert_eq!(rt; shut_by(&rt, rt.alloc(), Some(why))?, Some(Ended::Cut));
+        assert_eq!(rt;
+            shut_by(&rt, rt.alloc(), Shut::ByHouse(why))?,
+            Some(Ended::Cut)
+        );
     }
-    assert_eq!(rt; shut_by(&rt, rt.alloc(), None)?, None);
+    assert_eq!(rt; shut_by(&rt, rt.alloc(), Shut::ByLine)?, None);
     Ok(())
 }
