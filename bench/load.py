@@ -5,11 +5,12 @@
 Starts the server, lets so many entries stand in it (60,000 if not told), and lets clients (16) write and take, wait,
 transfer under transactions, be told of entries, list by pages, let leases end, and come and go. Each minute it prints the
 requests a second, the server's memory and descriptors, and how long a request waited for its answer of a client that asks
-once a millisecond.
+once a millisecond; beside it how long another such client waited for a plain echo, which is what the machine takes.
 """
 import multiprocessing
 import os
 import random
+import socket
 import subprocess
 import sys
 import time
@@ -77,17 +78,46 @@ def client(address, place, ends, asked):
                 asked[place] += once(jsp, draw, -1 - place)
 
 
-def probe(address, ends, waits):
+def measure(ask, ends, waits):
     """Asks once a millisecond, and puts how long it waited in each minute at the longest, and sums up."""
+    while time.monotonic() < ends:
+        began = time.monotonic()
+        ask()
+        waited = time.monotonic() - began
+        waits[0] = max(waits[0], waited)
+        waits[1] += waited
+        waits[2] += 1
+        time.sleep(max(0, 0.001 - waited))
+
+
+def probe(address, ends, waits):
+    """How long a request waits for its answer."""
     with Client(*address) as jsp:
-        while time.monotonic() < ends:
-            began = time.monotonic()
-            jsp.call("spaces")
-            waited = time.monotonic() - began
-            waits[0] = max(waits[0], waited)
-            waits[1] += waited
-            waits[2] += 1
-            time.sleep(max(0, 0.001 - waited))
+        measure(lambda: jsp.call("spaces"), ends, waits)
+
+
+def probe_echo(ends, waits):
+    """How long a byte waits for another process to send it back, which does nothing else."""
+    ours, others = socket.socketpair()
+    echo = multiprocessing.Process(target=send_back, args=(ours, others))
+    echo.start()
+    others.close()
+    measure(lambda: (ours.sendall(b"."), ours.recv(1)), ends, waits)
+    ours.close()
+    echo.join()
+
+
+def send_back(others, ours):
+    others.close()
+    while piece := ours.recv(1):
+        ours.sendall(piece)
+
+
+def told(waits):
+    """The longest and the mean of those since it was called last, in milliseconds."""
+    longest, mean = 1_000 * waits[0], 1_000 * waits[1] / max(1, waits[2])
+    waits[0] = waits[1] = waits[2] = 0
+    return f"{longest:.1f} | {mean:.2f}"
 
 
 def status(process):
@@ -113,24 +143,23 @@ def load(server, minutes, clients, entries):
     stand(address, entries)
     ends = time.monotonic() + 60 * minutes
     asked = multiprocessing.Array("q", clients, lock=False)
-    waits = multiprocessing.Array("d", 3, lock=False)
+    waits, echoes = (multiprocessing.Array("d", 3, lock=False) for _ in range(2))
     workers = [multiprocessing.Process(target=client, args=(address, place, ends, asked)) for place in range(clients)]
     workers.append(multiprocessing.Process(target=probe, args=(address, ends, waits)))
+    workers.append(multiprocessing.Process(target=probe_echo, args=(ends, echoes)))
     for worker in workers:
         worker.start()
     before, began = 0, time.monotonic()
-    print("| Minute | Requests a second | Memory, MB | Descriptors | Longest wait, ms | Mean wait, ms |")
-    print("|---|---|---|---|---|---|", flush=True)
+    print("| Minute | Requests a second | Memory, MB | Descriptors | Longest wait, ms | Mean | Of an echo | Mean |")
+    print("|---|---|---|---|---|---|---|---|", flush=True)
     while time.monotonic() < ends:
         time.sleep(min(60, max(0.1, ends - time.monotonic())))
         now, total = time.monotonic(), sum(asked)
         memory, descriptors = status(server)
-        longest, mean = 1_000 * waits[0], 1_000 * waits[1] / max(1, waits[2])
-        waits[0] = waits[1] = waits[2] = 0
         minute = (now - ends) / 60 + minutes
         print(
-            f"| {minute:.1f} | {(total - before) / (now - began):,.0f} | {memory} | {descriptors} | {longest:.1f} |"
-            f" {mean:.2f} |",
+            f"| {minute:.1f} | {(total - before) / (now - began):,.0f} | {memory} | {descriptors} | {told(waits)} |"
+            f" {told(echoes)} |",
             flush=True,
         )
         before, began = total, now
