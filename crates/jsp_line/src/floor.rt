@@ -10,7 +10,7 @@ ghost use Rattle.jsp_line.specs.Writing.{said_in};
 use crate::counts::Counts;
 use crate::locked::{Left, Locked};
 use crate::notes::ShutFor;
-use crate::sealed::{SealFlag, Sealed};
+use crate::sealed::Sealed;
 use jsp_kept::{AskSeat, InParts, Kept, OutSeat};
 use jsp_model::{Input, Settled, Step, Stopped, Why};
 use jsp_reply::{Refusal, Reply, Said};
@@ -18,7 +18,7 @@ use jsp_types::NoMemory;
 use std::alloc::Global;
 use std::sync::atomic::{AtomicBool, AtomicU64, Ordering};
 use std::sync::ledger::Ledger;
-use std::sync::{Condvar, Mutex, MutexGuard, Wait};
+use std::sync::{Condvar, Mutex, MutexGuard, OnceLock, Wait};
 use std::time::Duration;
 use std::{hint, thread, time};
 
@@ -77,8 +77,9 @@ pub struct Floor<H: InParts, A: Ledger, O: Ledger> {
     had: AtomicU64,
     /// Whether all lines have ended. It is set under the lock.
     ended: AtomicBool,
-    /// Whether an era is known to be sealed, and lines keep no bytes. It is set under the lock.
-    seal: SealFlag,
+    /// What shows that an era was sealed, once one was, and lines keep no bytes from then on. It is
+    /// set under the lock.
+    seal: OnceLock<Sealed>,
     /// How many refusals of each number were taken: the number is the place. They are set under the
     /// lock.
     refusals: Vec<AtomicU64>,
@@ -273,7 +274,7 @@ impl<H: InParts, A: Ledger, O: Ledger> Floor<H, A, O> {
             wanted: AtomicU64::new(0),
             had: AtomicU64::new(0),
             ended: AtomicBool::new(false),
-            seal: SealFlag::new(),
+            seal: OnceLock::new(),
             refusals: zeros(alloc)?,
             spaces,
         })
@@ -544,7 +545,7 @@ impl<H: InParts, A: Ledger, O: Ledger> Floor<H, A, O> {
             if let Some(sealed) = self.seal.get()
                 && !is_told
             {
-                return Call::Sealed(sealed);
+                return Call::Sealed(*sealed);
             }
             if locked.kept.next_waiting(session.saturating_sub(1)) == Some(session) {
                 return Call::Answers;
@@ -573,8 +574,8 @@ impl<H: InParts, A: Ledger, O: Ledger> Floor<H, A, O> {
         self.lock(rt).kept.is_open(session)
     }
 
-    /// Whether an era is known to be sealed, and lines keep no bytes.
-    pub(crate) fn seal(&self) -> &SealFlag {
+    /// What shows that an era was sealed, once one was, and lines keep no bytes from then on.
+    pub(crate) fn seal(&self) -> &OnceLock<Sealed> {
         &self.seal
     }
 
@@ -590,14 +591,13 @@ impl<H: InParts, A: Ledger, O: Ledger> Floor<H, A, O> {
         true
     }
 
-    // Whether an era was sealed, which is known from then on.
+    // Whether an era was sealed and that wasn't known, as it is from then on.
     fn sees_seal<T: Wait>(&self, rt: &T) -> bool {
         let locked = self.lock(rt);
         let Some(sealed) = Sealed::of(&locked.kept) else {
             return false;
         };
-        self.seal.set(sealed);
-        true
+        self.seal.try_set(sealed).is_ok()
     }
 
     /// A settle turn, or a part of it, after this reading of the clock, where it is a later one.

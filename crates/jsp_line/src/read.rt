@@ -15,7 +15,7 @@ use crate::answer_writer::{Acted, AnswerWriter, Start};
 use crate::counted::Counted;
 use crate::gate::{Clock, Gate};
 use crate::resting::read_at_rest;
-use crate::sealed::SealFlag;
+use crate::sealed::Sealed;
 use crate::shared::Shared;
 use crate::slot::Owner;
 use crate::transcript::Transcript;
@@ -28,7 +28,7 @@ use std::alloc::Global;
 use std::io::{Read, Write};
 use std::sync::atomic::{AtomicU64, Ordering};
 use std::sync::ledger::Ledger;
-use std::sync::{Mutex, Wait};
+use std::sync::{Mutex, OnceLock, Wait};
 use std::time;
 
 /// The most bytes that one read asks for.
@@ -92,7 +92,7 @@ fn read_piece<R: Read, T: Wait>(
     reader: &mut Counted<R>,
     transcript: &mut Transcript,
     line: &mut Line,
-    seal: &SealFlag,
+    seal: &OnceLock<Sealed>,
     reading: &mut Reading<'_>,
 ) -> Option<Ended>
     ensures reads { ReadsPiece (R.remaining reader.old.inner) (R.remaining reader.new.inner) transcript.old transcript.new line.old line.new result }

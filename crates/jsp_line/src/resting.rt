@@ -6,11 +6,11 @@ ghost use Rattle.jsp_line.specs.declared.transcript.Transcript.TheVariants.{NoMe
 ghost use Rattle.jsp_line.specs.Bytes.{saturated, has_bytes, IsTranscript};
 
 use crate::counted::Counted;
-use crate::sealed::SealFlag;
+use crate::sealed::Sealed;
 use crate::slot::Owner;
 use crate::transcript::Transcript;
 use std::io::Read;
-use std::sync::Wait;
+use std::sync::{OnceLock, Wait};
 use std::{io, mem};
 
 /// One read. Meanwhile what the line keeps of earlier ones stands in its slot, if it has one, and
@@ -20,7 +20,7 @@ pub(crate) fn read_at_rest<R: Read, T: Wait>(
     reader: &mut Counted<R>,
     transcript: &mut Transcript,
     owner: &mut Option<Owner<'_>>,
-    seal: &SealFlag,
+    seal: &OnceLock<Sealed>,
     buf: &mut [u8],
 ) -> io::Result<usize>
     ensures bound { ReadsAtMost result buf.new }
@@ -32,7 +32,7 @@ pub(crate) fn read_at_rest<R: Read, T: Wait>(
     ensures room { transcript.new ≡ NoMemory → transcript.old ≡ NoMemory }
 {
     if let Some(sealed) = seal.get() {
-        transcript.forget(sealed);
+        transcript.forget(*sealed);
     }
     match owner {
         Some(owner) if transcript.has_bytes() => {
@@ -48,7 +48,7 @@ fn read_beside_slot<R: Read, T: Wait>(
     reader: &mut Counted<R>,
     transcript: &mut Transcript,
     owner: &mut Owner<'_>,
-    seal: &SealFlag,
+    seal: &OnceLock<Sealed>,
     buf: &mut [u8],
 ) -> io::Result<usize>
     requires { has_bytes transcript.old ≡ true }
@@ -69,7 +69,7 @@ fn read_beside_slot<R: Read, T: Wait>(
     if let Some(sealed) = seal.get() {
         // Whoever clears it may have come before.
         drop(owner.take(rt));
-        *transcript = Transcript::Sealed(sealed);
+        *transcript = Transcript::Sealed(*sealed);
         return reader.read_once(buf);
     }
     let result = reader.read_once(buf);

@@ -2,11 +2,10 @@
 ghost use Rattle.std.specs.Prelude.{◌≡◌, true, false, IfSome, IfNone};
 
 use jsp_kept::{InParts, Kept};
-use std::sync::atomic::{AtomicBool, Ordering};
 use std::sync::ledger::Ledger;
 
 /// Shows that an era of a history was sealed, so that nobody asks for what its lines read and
-/// wrote. Only such a history gives one.
+/// wrote. Only such a history gives one; who was shown it hands it on.
 #[derive(Clone, Copy, Debug, PartialEq, Eq)]
 pub struct Sealed {
     by_history: (),
@@ -19,34 +18,6 @@ impl Sealed {
         ensures none { IfNone result (kept.now.is_sealed ≡ false) }
     {
         if kept.is_sealed() {
-            Some(Sealed { by_history: () })
-        } else {
-            None
-        }
-    }
-}
-
-/// Whether an era is known to be sealed. Who was shown it says so.
-#[derive(Drop)]
-pub(crate) struct SealFlag {
-    is_set: AtomicBool,
-}
-
-impl SealFlag {
-    pub(crate) fn new() -> SealFlag {
-        SealFlag {
-            is_set: AtomicBool::new(false),
-        }
-    }
-
-    /// From now on it is known.
-    pub(crate) fn set(&self, _shown: Sealed) {
-        self.is_set.store(true, Ordering::SeqCst);
-    }
-
-    /// What who set it was shown.
-    pub(crate) fn get(&self) -> Option<Sealed> {
-        if self.is_set.load(Ordering::SeqCst) {
             Some(Sealed { by_history: () })
         } else {
             None
