@@ -12,8 +12,8 @@ use Rattle.jsp_drive.specs.declared.hear.LineInput.{LineInput}
 use Rattle.jsp_drive.specs.declared.line.Next.TheVariants as next
 use Rattle.jsp_drive.specs.declared.line.Phase.{Phase}
 use Rattle.jsp_drive.specs.declared.line.Phase.TheVariants as phase
-use Rattle.jsp_drive.specs.Versions.{longest, version_after, version_behind, heard_each, SplitsInto, Reads}
-use Rattle.jsp_drive.specs.Line.{Unheard, Answers, IsOutOfMemory, input_of}
+use Rattle.jsp_drive.specs.Versions.{longest, version_after, version_behind, heard_each, SplitsInto, HasPayloads}
+use Rattle.jsp_drive.specs.Line.{Unheard, IsNextOf, IsOutOfMemory, input_of}
 use Rattle.jsp_drive.specs.Giving.{heard_all, Gave, GaveAll, FollowsStream}
 use Rattle.jsp_drive.proofs.Splitting.{heard_each-append}
 use Rattle.jsp_drive.proofs.Readings.{Reads-unique}
@@ -33,7 +33,7 @@ begins p ps stream rest whole = whole ∙ append_assoc (frame_of p) (flat_map fr
 
 -- frames that were taken are the first of all that there are
 first_frames : (v : Version) (stream : List ℕ) (ps qs : List (List ℕ)) (rest last : List ℕ)
-    → SplitsInto v stream ps rest → Reads v stream qs last → (more : List (List ℕ)) × (qs ≡ ps ++ more)
+    → SplitsInto v stream ps rest → HasPayloads v stream qs last → (more : List (List ℕ)) × (qs ≡ ps ++ more)
 first_frames v stream [] qs rest last split reads = (qs, refl)
 first_frames v stream (p ∷ ps) [] rest last split reads =
     absurd (no_frame (longest v) p (flat_map frame_of ps ++ rest) last (longest-fits v) split.within.0
@@ -43,8 +43,8 @@ first_frames v stream (p ∷ ps) (q ∷ qs) rest last split reads =
     let first = one_frame p q (flat_map frame_of ps ++ rest) (flat_map frame_of qs ++ last) (omega (arith, split.within.0)) (omega (arith, reads.split.within.0))
     (sym (begins p ps stream rest split.whole) ∙ begins q qs stream last reads.split.whole) in
     let mine : SplitsInto (version_after v p) (flat_map frame_of ps ++ rest) ps rest = record { within = split.within.1; whole = refl } in
-    let behind : Reads (version_after v q) (flat_map frame_of qs ++ last) qs last = record { split = record { within = reads.split.within.1; whole = refl }; ended = reads.ended } in
-    let other : Reads (version_after v p) (flat_map frame_of ps ++ rest) qs last = rw (first.0, first.1) behind in
+    let behind : HasPayloads (version_after v q) (flat_map frame_of qs ++ last) qs last = record { split = record { within = reads.split.within.1; whole = refl }; ended = reads.ended } in
+    let other : HasPayloads (version_after v p) (flat_map frame_of ps ++ rest) qs last = rw (first.0, first.1) behind in
     let more = first_frames (version_after v p) (flat_map frame_of ps ++ rest) ps qs rest last mine other in
     (more.0, ap₂ (λ x xs. x ∷ xs) (sym first.0) more.1)
 
@@ -54,7 +54,7 @@ no_more_frames : (too_long : Bool) (limit : ℕ) (rest : List ℕ) → EndsIn to
 no_more_frames true limit rest h = inr h
 no_more_frames false limit rest h = inl h
 
-reads_all : (s : ℕ) (stream : List ℕ) (asked : List Step) (too_long : Bool) (h : GaveAll s stream asked too_long) → Reads one stream h.payloads h.rest
+reads_all : (s : ℕ) (stream : List ℕ) (asked : List Step) (too_long : Bool) (h : GaveAll s stream asked too_long) → HasPayloads one stream h.payloads h.rest
 reads_all s stream asked too_long h = record { split = h.split; ended = no_more_frames too_long (longest (version_behind one h.payloads)) h.rest h.ended }
 
 -- a rest ends in one way
@@ -97,7 +97,7 @@ gave_first s stream asked all too_long line sound h k = at line.phase refl
     at phase.Closed is =
         let v = version_behind one h.payloads in
         let stands : IsTooLong (longest v) h.rest × (h.too_long ≡ true) = rw is at h.stands in
-        let mine : Reads one stream h.payloads h.rest = record { split = h.split; ended = inr stands.0 } in
+        let mine : HasPayloads one stream h.payloads h.rest = record { split = h.split; ended = inr stands.0 } in
         let same = Reads-unique one stream h.payloads k.payloads h.rest k.rest mine (reads_all s stream all too_long k) in
         let ended : EndsIn too_long (longest v) h.rest = rw (same.0, same.1) k.ended in
         let long : too_long ≡ true = too_long_once too_long (longest v) h.rest ended stands.0 in
@@ -106,7 +106,7 @@ gave_first s stream asked all too_long line sound h k = at line.phase refl
 -- ---- what a line gives next
 
 -- where it gives an input, memory wasn't wanting
-gives_sound : (old new : Unheard) (x : LineInput) → Answers old (next.Input x) new → IsOutOfMemory new → ⊥
+gives_sound : (old new : Unheard) (x : LineInput) → IsNextOf old (next.Input x) new → IsOutOfMemory new → ⊥
 gives_sound old new x h out =
     elim h.1 [
       | inl frame ↦ absurd (cc (sym out ∙ frame.stays ∙ h.0))
@@ -119,7 +119,7 @@ given_step s x = step_of (input_of s x)
 
 -- something is left to say where a line gives an input
 pub more_is_left : (s : ℕ) (stream : List ℕ) (asked left : List Step) (too_long : Bool) (x : LineInput) (old new : Unheard)
-    → Answers old (next.Input x) new → FollowsStream old (next.Input x) new → Gave s stream asked old → GaveAll s stream (asked ++ left) too_long
+    → IsNextOf old (next.Input x) new → FollowsStream old (next.Input x) new → Gave s stream asked old → GaveAll s stream (asked ++ left) too_long
     → (more : List Step) × (left ≡ given_step s x ∷ more)
 more_is_left s stream asked left too_long x old new answers follows h k =
     let rest = gave_first s stream (asked ++ given_step s x ∷ []) (asked ++ left) too_long new (gives_sound old new x answers) (follows s stream asked h) k in
@@ -127,7 +127,7 @@ more_is_left s stream asked left too_long x old new answers follows h k =
 
 -- the input is what the stream says next
 pub next_is : (s : ℕ) (stream : List ℕ) (asked more : List Step) (wanted : Step) (too_long : Bool) (x : LineInput) (old new : Unheard)
-    → Answers old (next.Input x) new → FollowsStream old (next.Input x) new → Gave s stream asked old → GaveAll s stream (asked ++ wanted ∷ more) too_long → given_step s x ≡ wanted
+    → IsNextOf old (next.Input x) new → FollowsStream old (next.Input x) new → Gave s stream asked old → GaveAll s stream (asked ++ wanted ∷ more) too_long → given_step s x ≡ wanted
 next_is s stream asked more wanted too_long x old new answers follows h k =
     let left = more_is_left s stream asked (wanted ∷ more) too_long x old new answers follows h k in
     cc (left.1)

@@ -11,7 +11,7 @@ use Rattle.jsp_model.specs.declared.step.Step.{Step}
 use Rattle.jsp_model.specs.declared.step.Step.TheVariants as step
 use Rattle.jsp_drive.specs.declared.hear.LineInput.{LineInput}
 use Rattle.jsp_drive.specs.declared.line.Next.TheVariants as next
-use Rattle.jsp_drive.specs.Line.{Unheard, Answers}
+use Rattle.jsp_drive.specs.Line.{Unheard, IsNextOf}
 use Rattle.jsp_drive.specs.Streams.{requests_of}
 use Rattle.jsp_drive.specs.Giving.{Gave, GaveAll, FollowsStream}
 use Rattle.jsp_closing.specs.declared.closed.LineReport.{LineReport}
@@ -35,7 +35,7 @@ next_gave s lines line asked at h =
     subst (λ (u : Unheard). Gave s h.bytes h.before u) same h.gave
 
 pub gives_next : (s : ℕ) (lines : List Unheard) (line after : Unheard) (x : LineInput) (asked : Step) → slice_get lines (s - 1) ≡ Some line
-    → Answers line (next.Input x) after → FollowsStream line (next.Input x) after → HasNext s lines asked → given_step s x ≡ asked
+    → IsNextOf line (next.Input x) after → FollowsStream line (next.Input x) after → HasNext s lines asked → given_step s x ≡ asked
 gives_next s lines line after x asked at answers follows h =
     next_is s h.bytes h.before h.more asked h.too_long x line after answers follows (next_gave s lines line asked at h) h.says
 

@@ -14,7 +14,7 @@ use Rattle.jsp_reply.specs.declared.refusal.Refusal.TheVariants.{TooLong}
 use Rattle.jsp_model.specs.declared.state.State.{State}
 use Rattle.jsp_model.specs.declared.step.Step.{Step}
 use Rattle.jsp_model.specs.declared.step.Step.TheVariants as step
-use Rattle.jsp_drive.specs.Versions.{longest, version_behind, heard_each, Reads}
+use Rattle.jsp_drive.specs.Versions.{longest, version_behind, heard_each, HasPayloads}
 use Rattle.jsp_drive.specs.Line.{Unheard, IsOpen}
 use Rattle.jsp_drive.specs.Streams.{requests_of}
 use Rattle.jsp_drive.specs.Giving.{heard_all, Gave, GaveAll}
@@ -61,7 +61,7 @@ says_more s read asked line bytes is h =
     let more = Reads-exists v h.rest (rest_bytes read (flat_map frame_of h.payloads) h.rest h.split.whole bytes) in
     let payloads = more.0 in
     let rest = more.1 in
-    let reads : Reads v h.rest payloads rest = more.2 in
+    let reads : HasPayloads v h.rest payloads rest = more.2 in
     let behind : version_behind v payloads ≡ version_behind one (h.payloads ++ payloads) = sym (version_behind-append one h.payloads payloads) in
     let end' = ending (longest (version_behind v payloads)) rest reads.ended in
     let too_long = end'.0 in

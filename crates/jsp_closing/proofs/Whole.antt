@@ -13,9 +13,9 @@ use Rattle.jsp_model.specs.Lookup.{empty}
 use Rattle.jsp_model.specs.Runs.{IsRun, first_illegal, is_run, said_in, state_after}
 use Rattle.jsp_model.specs.Settling.{first_commit, turn_of}
 use Rattle.jsp_model.specs.Steps.{is_legal, next}
-use Rattle.jsp_audit.specs.declared.replaying.ReplayFault.{ReplayFault}
-use Rattle.jsp_audit.specs.declared.replaying.ReplayFault.TheVariants as replay
-use Rattle.jsp_audit.specs.Replay.{FailsAt}
+use Rattle.jsp_machine.specs.declared.replaying.ReplayFault.{ReplayFault}
+use Rattle.jsp_machine.specs.declared.replaying.ReplayFault.TheVariants as replay
+use Rattle.jsp_machine.specs.Replay.{FailsAt}
 use Rattle.jsp_closing.specs.declared.closed.Fault.{Fault}
 use Rattle.jsp_closing.specs.declared.closed.Fault.TheVariants as fault
 use Rattle.jsp_closing.specs.declared.closed.LineReport.{LineReport}

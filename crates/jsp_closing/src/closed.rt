@@ -1,6 +1,6 @@
 //! What a run answers.
-use jsp_audit::ReplayFault;
 use jsp_drive::Ended;
+use jsp_machine::ReplayFault;
 use jsp_model::Step;
 use jsp_types::NoMemory;
 use thiserror::Error;
@@ -74,7 +74,7 @@ impl From<NoMemory> for Fault {
 
 impl From<ReplayFault> for Fault {
     ghost use Rattle.std.specs.Prelude.{◌≡◌, ℕ};
-    ghost use Rattle.jsp_audit.specs.declared.replaying.ReplayFault.TheVariants.{Illegal};
+    ghost use Rattle.jsp_machine.specs.declared.replaying.ReplayFault.TheVariants.{Illegal};
     ghost use Rattle.jsp_closing.specs.declared.closed.Fault.TheVariants.{Differs};
 
     ghost from_gives = { λ why fault. fault ≡ Differs → (place : ℕ) × (why ≡ Illegal place) };

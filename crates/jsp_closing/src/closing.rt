@@ -8,13 +8,13 @@ ghost use Rattle.jsp_closing.specs.Asking.{HaveGiven, unasked_in};
 ghost use Rattle.jsp_closing.specs.Checked.{AreRight};
 ghost use Rattle.jsp_closing.specs.Closing.{Closes, IsNotWhole, IsOf, IsWhole, RestsAfter, opens};
 
-use crate::asking::{ask_again, feed_lines};
+use crate::asked::{ask_again, feed_lines};
 use crate::closed::{Closed, Fault, LineReport, RunFault};
 use crate::leaving::check_lines;
 use crate::resting::is_at_rest;
-use crate::writing::check_written;
-use jsp_audit::{Replayed, replay};
+use crate::written::check_written;
 use jsp_drive::{Era, Line};
+use jsp_machine::{Replayed, replay};
 use jsp_model::{Config, Step};
 use std::alloc::Global;
 
@@ -24,7 +24,8 @@ use std::alloc::Global;
 /// it.
 ///
 /// The answer is `Audit` only where they don't: no steps that are the history's but for what is
-/// asked in them, and no order of the lines, are whole. It is `NoMemory` where a growth was refused.
+/// asked in them, and no order of the lines, are whole. It is `NoMemory` where a growth was
+/// refused.
 pub fn close(
     alloc: Global,
     config: &Config,

@@ -9,9 +9,9 @@ ghost use Rattle.jsp_closing.specs.Asking.{HaveGiven, SaysMore};
 ghost use Rattle.jsp_closing.specs.Leaving.{AllAsk, Marks, MayAsk, MayLeave, TellShut};
 
 use crate::closed::{Fault, LineReport};
-use jsp_audit::is_open;
 use jsp_core::Core;
 use jsp_drive::{Ended, Line, Next};
+use jsp_machine::is_open;
 use jsp_model::Step;
 use jsp_types::NoMemory;
 use std::alloc::Global;

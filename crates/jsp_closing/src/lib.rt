@@ -8,12 +8,12 @@
 //! history asks for it.
 #![tactic(auto)]
 
-mod asking;
+mod asked;
 mod closed;
 mod closing;
 mod leaving;
 mod resting;
-mod writing;
+mod written;
 
 pub use closed::{Closed, LineReport, RunFault};
 pub use closing::close;

@@ -5,8 +5,8 @@ ghost use Rattle.jsp_model.specs.Quiet.{is_quiet as quiet};
 ghost use Rattle.jsp_model.specs.Settling.{places};
 ghost use Rattle.jsp_closing.specs.Closing.{IsAtRest};
 
-use jsp_audit::is_quiet;
 use jsp_core::LiveImage;
+use jsp_machine::is_quiet;
 
 /// Whether no transaction votes, and every space is quiet.
 pub(crate) fn is_at_rest(image: &LiveImage) -> bool

@@ -11,9 +11,10 @@ use std::alloc::Global;
 use std::marker::Model;
 
 /// A state within its limits, to be searched and changed. Contracts see it as the state. No waiting
-/// request may be given a row that isn't on offer, and those that wait for a conflict to end, and for which
-/// there is none, are among those that are stirred. Where it says so the state is steady, as each is to
-/// which a run from an empty one leads: then a declaration changes nothing for those who wait.
+/// request may be given a row that isn't on offer, and those that wait for a conflict to end, and
+/// for which there is none, are among those that are stirred. Where it says so the state is steady,
+/// as each is to which a run from an empty one leads: then a declaration changes nothing for those
+/// who wait.
 ///
 /// Whoever changes the state shows all four again.
 #[derive(Drop)]
@@ -82,21 +83,23 @@ impl LiveImage {
         &self.state
     }
 
-    /// A session that was told something since it was named here, while there is one. Nothing else changes.
+    /// A session that was told something since it was named here, while there is one. Nothing else
+    /// changes.
     pub fn next_told(&mut self) -> Option<u64>
         ensures { self.new ≡ self.old }
     {
         next_told(&mut self.state)
     }
 
-    /// Whether any space has a decision that it hasn't applied, or any registration is to be told what a
-    /// commit tells it.
+    /// Whether any space has a decision that it hasn't applied, or any registration is to be told
+    /// what a commit tells it.
     pub fn has_pending(&self) -> bool {
         self.state.rows.has_pending() || self.state.registrations.has_news()
     }
 
-    /// The space applies the decisions that it hasn't applied, and where none of its registrations is owed
-    /// an event, they are told some of what commits tell them, as far as there is memory for it.
+    /// The space applies the decisions that it hasn't applied, and where none of its registrations
+    /// is owed an event, they are told some of what commits tell them, as far as there is memory
+    /// for it.
     pub fn apply_in(&mut self, space: u64)
         ensures { self.new ≡ self.old }
     {
@@ -115,16 +118,16 @@ impl LiveImage {
         self.state.rows.pending(space) > 0
     }
 
-    /// The space applies some of the decisions that it hasn't applied, in a time that doesn't grow with how
-    /// many rows they change. Whether it has applied all. Takes no memory.
+    /// The space applies some of the decisions that it hasn't applied, in a time that doesn't grow
+    /// with how many rows they change. Whether it has applied all. Takes no memory.
     pub fn apply_part(&mut self, space: u64) -> bool
         ensures { self.new ≡ self.old }
     {
         apply_part(&mut self.state, space)
     }
 
-    /// The space of a row that ends by then and comes first applies some of them. Whether it has none to
-    /// apply. Takes no memory.
+    /// The space of a row that ends by then and comes first applies some of them. Whether it has
+    /// none to apply. Takes no memory.
     pub fn apply_due_part(&mut self, time: u64) -> bool
         ensures { self.new ≡ self.old }
     {

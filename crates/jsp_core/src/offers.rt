@@ -9,12 +9,12 @@ use std::marker::Model;
 
 /// Rows by their numbers, or any row. Contracts see a list of numbers, or `None` for any.
 ///
-/// A row comes on offer when it is written or let go, and is so until no waiting request may be given
-/// it. So what waits is only looked at for the rows on offer. Nothing here fails: where memory is
-/// refused, any row is on offer.
+/// A row comes on offer when it is written or let go, and is so until no waiting request may be
+/// given it. So what waits is only looked at for the rows on offer. Nothing here fails: where
+/// memory is refused, any row is on offer.
 ///
-/// Requests stand in such a list too: one that waits for a conflict to end is stirred when a row goes, or is
-/// let go, for which it asks, and is so until it is seen that another holds it up.
+/// Requests stand in such a list too: one that waits for a conflict to end is stirred when a row
+/// goes, or is let go, for which it asks, and is so until it is seen that another holds it up.
 #[derive(Drop)]
 pub struct Offers {
     is_any: bool,

@@ -107,8 +107,8 @@ impl Core {
     }
 }
 
-/// The lists that are searched by what they hold. (In two parts, so that few things have to go where
-/// memory is refused.)
+/// The lists that are searched by what they hold. (In two parts, so that few things have to go
+/// where memory is refused.)
 fn searched_of(
     alloc: Global,
     rows: Items<Row>,

@@ -17,8 +17,8 @@ use jsp_model::{Row, Vote};
 use jsp_types::{NoMemory, Text, Value};
 use std::alloc::Global;
 
-/// How much may be left to apply where more is recorded: what asks for a row by its number, or for what a
-/// commit publishes, goes through all of it.
+/// How much may be left to apply where more is recorded: what asks for a row by its number, or for
+/// what a commit publishes, goes through all of it.
 const MOST: usize = 256;
 
 /// How many rows of a space are changed at most, for one record, in one part.
@@ -50,15 +50,16 @@ impl DecidedRows {
 
     // ---- append
 
-    /// Whether the numbers of these rows rise, above those of all that is stored and above 0. Where one
-    /// isn't above a number that is gone, it may be refused.
+    /// Whether the numbers of these rows rise, above those of all that is stored and above 0. Where
+    /// one isn't above a number that is gone, it may be refused.
     pub fn is_above(&self, rows: &[Row]) -> bool
         ensures { OnTrue result (AreNumbered (self.now.stored ++ rows.now)) }
     {
         self.stored.is_above(rows)
     }
 
-    /// Adds rows at the end, whole or not at all. Where memory is refused they stay with the caller.
+    /// Adds rows at the end, whole or not at all. Where memory is refused they stay with the
+    /// caller.
     pub fn append(&mut self, rows: &mut Vec<Row>) -> Result<(), NoMemory>
         requires { AreNumbered (self.old.stored ++ rows.old.items) }
         ensures ok { OnOk result (rows_of self.new ≡ rows_of self.old ++ rows.old.items) }
@@ -105,8 +106,9 @@ impl DecidedRows {
 
     // ---- what is learned
 
-    /// Rows of the space were searched for by a template of these fields, and the last that was found has
-    /// this number. Where many had to be looked at, more is learned of how to find such ones sooner.
+    /// Rows of the space were searched for by a template of these fields, and the last that was
+    /// found has this number. Where many had to be looked at, more is learned of how to find such
+    /// ones sooner.
     pub fn learn(&mut self, space: u64, fields: &[(Text, Value)], last: Option<u64>)
         ensures { rows_of self.new ≡ rows_of self.old }
     {
@@ -115,8 +117,8 @@ impl DecidedRows {
 
     // ---- the end of a transaction
 
-    /// The transaction aborts: the rows that it wrote go, and so do its marks. That is recorded for each
-    /// space where it holds rows, or done at once where memory for that is refused.
+    /// The transaction aborts: the rows that it wrote go, and so do its marks. That is recorded for
+    /// each space where it holds rows, or done at once where memory for that is refused.
     pub fn abort(&mut self, x: u64)
         ensures { rows_of self.new ≡ aborted x (rows_of self.old) }
     {
@@ -126,8 +128,8 @@ impl DecidedRows {
         }
     }
 
-    /// The transaction commits: the rows that it took go, and so do its marks. That is recorded for each
-    /// space where it holds rows, or done at once where memory for that is refused.
+    /// The transaction commits: the rows that it took go, and so do its marks. That is recorded for
+    /// each space where it holds rows, or done at once where memory for that is refused.
     pub fn commit(&mut self, x: u64)
         ensures { rows_of self.new ≡ committed x (rows_of self.old) }
     {
@@ -193,7 +195,8 @@ impl DecidedRows {
         apply(&mut self.stored, &first);
     }
 
-    /// The same for so many of its rows at most. Whether nothing is left of it; else further calls go on.
+    /// The same for so many of its rows at most. Whether nothing is left of it; else further calls
+    /// go on.
     pub fn apply_some(&mut self, space: u64, most: usize) -> bool
         ensures same { rows_of self.new ≡ rows_of self.old }
         ensures less { self.new.recorded.items ≡ (if result then without_first space self.old.recorded.items else self.old.recorded.items) }
@@ -228,8 +231,8 @@ impl DecidedRows {
         }
     }
 
-    /// The space applies some of what it hasn't applied, in a time that doesn't grow with how many rows that
-    /// changes. Whether it has applied all; else further calls go on.
+    /// The space applies some of what it hasn't applied, in a time that doesn't grow with how many
+    /// rows that changes. Whether it has applied all; else further calls go on.
     pub fn apply_part(&mut self, space: u64) -> bool
         ensures same { rows_of self.new ≡ rows_of self.old }
         ensures all { OnTrue result (is_covered self.new.recorded.items space ≡ false) }
@@ -245,8 +248,8 @@ impl DecidedRows {
         false
     }
 
-    /// The space applies some of it where the first row to end, of those that are stored, is of a space that
-    /// has something to apply. Whether it isn't.
+    /// The space applies some of it where the first row to end, of those that are stored, is of a
+    /// space that has something to apply. Whether it isn't.
     pub fn apply_due_part(&mut self, time: u64) -> bool
         ensures same { rows_of self.new ≡ rows_of self.old }
     {
@@ -259,8 +262,8 @@ impl DecidedRows {
         }
     }
 
-    /// While the first row to end, of those that are stored, is of a space that has something to apply,
-    /// that space does. So `due` needs no look at all rows.
+    /// While the first row to end, of those that are stored, is of a space that has something to
+    /// apply, that space does. So `due` needs no look at all rows.
     pub fn apply_due(&mut self, time: u64)
         ensures same { rows_of self.new ≡ rows_of self.old }
     {
@@ -304,8 +307,8 @@ impl DecidedRows {
         self.recorded.clear();
     }
 
-    // ---- nothing is left recorded of what is to change. Who applies what a space has pending before
-    // anything is done there never waits for this.
+    // ---- nothing is left recorded of what is to change. Who applies what a space has pending
+    // before anything is done there never waits for this.
 
     fn make_way_for(&mut self, rows: &[Row])
         ensures same { rows_of self.new ≡ rows_of self.old }

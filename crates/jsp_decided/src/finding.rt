@@ -169,8 +169,8 @@ impl DecidedRows {
         }
     }
 
-    /// The row whose end has come and comes first, as an item. Only where that row goes, of those that
-    /// are stored, each is looked at.
+    /// The row whose end has come and comes first, as an item. Only where that row goes, of those
+    /// that are stored, each is looked at.
     pub fn due(&self, time: u64) -> Option<Item>
         ensures { result ≡ first_item (over_by time (map row_end (rows_of self.now))) }
     {

@@ -82,8 +82,8 @@ pub(crate) fn apply(stored: &mut HintedRows, recorded: &Recorded)
     }
 }
 
-/// Applies it to so many rows of its space at most. Whether nothing is left of it; else further calls
-/// go on. Takes no memory.
+/// Applies it to so many rows of its space at most. Whether nothing is left of it; else further
+/// calls go on. Takes no memory.
 pub(crate) fn apply_some(stored: &mut HintedRows, recorded: &Recorded, most: usize) -> bool
     ensures same { filter_map (becomes recorded.now) stored.new ≡ filter_map (becomes recorded.now) stored.old }
     ensures all { OnTrue result (stored.new ≡ filter_map (becomes recorded.now) stored.old) }

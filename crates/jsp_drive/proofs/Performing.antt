@@ -16,7 +16,7 @@ use Rattle.jsp_model.proofs.Ends.{due_shut}
 use Rattle.jsp_drive.specs.declared.acts.Act.TheVariants as act
 use Rattle.jsp_drive.specs.Line.{Unheard}
 use Rattle.jsp_drive.specs.Lines.{SetsLine, nothing}
-use Rattle.jsp_drive.specs.Calls.{Performs}
+use Rattle.jsp_drive.specs.Calls.{MakesAct}
 
 abbrev Lines : Type 0 → Type 0
 Lines S = HashMap ℕ Unheard S
@@ -45,7 +45,7 @@ touched_at false s st = refl
 module _ {S : Type 0} where
   -- the session's line is dropped, and it is closed
   pub shut_made : (s : ℕ) (old new : State) (log log' : List Step) (lines lines' : Lines S) → SetsLine s nothing lines lines' → Makes old new log log' (shuts old s)
-      → Performs (act.Shut s) old new log log' lines lines'
+      → MakesAct (act.Shut s) old new log log' lines lines'
   shut_made s old new log log' lines lines' dropped makes = record {
     steps = shuts old s;
     makes = makes;

@@ -4,7 +4,7 @@ use Rattle.jsp_wire.specs.declared.ask.Version.{Version}
 use Rattle.jsp_wire.specs.declared.ask.Version.TheVariants as version
 use Rattle.jsp_frame.specs.Stream.{frame_of}
 use Rattle.jsp_frame.proofs.Readings.{AreBytes, one_frame, no_frame, frame_or_none, front_payload, behind_front, behind_front-bytes, behind_front-less, HasFrame-BeginsWith}
-use Rattle.jsp_drive.specs.Versions.{longest, version_after, SplitsInto, Reads, HasReading}
+use Rattle.jsp_drive.specs.Versions.{longest, version_after, SplitsInto, HasPayloads, HasReading}
 use Rattle.jsp_drive.proofs.Splitting.{SplitsInto-nil, SplitsInto-join, SplitsInto-frame}
 
 -- a length within the limit fits its four bytes
@@ -13,8 +13,8 @@ longest-fits version.One = omega arith
 longest-fits version.Two = omega arith
 
 -- what follows the first frame
-behind : (v : Version) (p : List ℕ) (ps : List (List ℕ)) (stream rest : List ℕ) → Reads v stream (p ∷ ps) rest
-    → Reads (version_after v p) (flat_map frame_of ps ++ rest) ps rest
+behind : (v : Version) (p : List ℕ) (ps : List (List ℕ)) (stream rest : List ℕ) → HasPayloads v stream (p ∷ ps) rest
+    → HasPayloads (version_after v p) (flat_map frame_of ps ++ rest) ps rest
 behind v p ps stream rest reads = record { split = record { within = reads.split.within.1; whole = refl }; ended = reads.ended }
 
 begins : (p : List ℕ) (ps : List (List ℕ)) (stream rest : List ℕ) → stream ≡ flat_map frame_of (p ∷ ps) ++ rest → stream ≡ frame_of p ++ (flat_map frame_of ps ++ rest)
@@ -22,7 +22,7 @@ begins p ps stream rest whole = whole ∙ append_assoc (frame_of p) (flat_map fr
 
 -- two readings are the same
 pub Reads-unique : (v : Version) (stream : List ℕ) (ps qs : List (List ℕ)) (rest last : List ℕ)
-    → Reads v stream ps rest → Reads v stream qs last → (ps ≡ qs) × (rest ≡ last)
+    → HasPayloads v stream ps rest → HasPayloads v stream qs last → (ps ≡ qs) × (rest ≡ last)
 Reads-unique v stream [] [] rest last one two = (refl, sym one.split.whole ∙ two.split.whole)
 Reads-unique v stream [] (q ∷ qs) rest last one two =
     absurd (no_frame (longest v) q (flat_map frame_of qs ++ last) rest (longest-fits v) two.split.within.0
@@ -35,7 +35,7 @@ Reads-unique v stream (p ∷ ps) (q ∷ qs) rest last one two =
     let first = one_frame p q (flat_map frame_of ps ++ rest) (flat_map frame_of qs ++ last) (omega (arith, one.split.within.0)) (omega (arith, two.split.within.0))
     (sym (begins p ps stream rest one.split.whole) ∙ begins q qs stream last two.split.whole) in
     let mine = behind v p ps stream rest one in
-    let other : Reads (version_after v p) (flat_map frame_of ps ++ rest) qs last =
+    let other : HasPayloads (version_after v p) (flat_map frame_of ps ++ rest) qs last =
     rw (first.0, first.1) (behind v q qs stream last two) in
     let more = Reads-unique (version_after v p) (flat_map frame_of ps ++ rest) ps qs rest last mine other in
     (ap₂ (λ x xs. x ∷ xs) first.0 more.0, more.1)

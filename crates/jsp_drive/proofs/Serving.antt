@@ -22,7 +22,7 @@ use Rattle.jsp_drive.specs.declared.line.Phase.TheVariants as phase
 use Rattle.jsp_drive.specs.declared.line.Next.TheVariants as next
 use Rattle.jsp_drive.specs.Heard.{heard}
 use Rattle.jsp_drive.specs.Versions.{longest, version_after, version_behind, heard_each, SplitsInto}
-use Rattle.jsp_drive.specs.Line.{Unheard, IsOpen, input_of, GivesFrame, GivesEnd, Answers}
+use Rattle.jsp_drive.specs.Line.{Unheard, IsOpen, input_of, GivesFrame, GivesEnd, IsNextOf}
 use Rattle.jsp_drive.specs.Calls.{ActsOn, Serves}
 use Rattle.jsp_drive.proofs.Splitting.{version_behind-append, heard_each-more, SplitsInto-nil, SplitsInto-frame}
 use Rattle.jsp_drive.proofs.Quieting.{acts_undecided, quiet_then}
@@ -133,7 +133,7 @@ pub goes_start : (s : ℕ) (st : State) (log : List Step) (line : Unheard) → I
 goes_start s st log line h = inl (serving_start s st log line h)
 
 pub goes_more : (s : ℕ) (old mid now : State) (before log after : List Step) (first line line' : Unheard) (x : LineInput)
-    → Goes s old mid before log first line → is_open mid s ≡ true → Answers line (next.Input x) line'
+    → Goes s old mid before log first line → is_open mid s ≡ true → IsNextOf line (next.Input x) line'
     → ActsOn mid now log after (input_of s x) → accepts mid (input_of s x) ≡ is_open mid s
     → Goes s old now before after first line'
 goes_more s old mid now before log after first line line' x (inr ended) live a acts accepted = absurd (cc (live, ended.closed))
@@ -155,7 +155,7 @@ abbrev pub left : Unheard → ℕ
 left u = length u.rest + one_if_open u.phase
 
 -- a frame is some bytes, and a line ends once
-pub less_left : (old new : Unheard) (x : LineInput) → Answers old (next.Input x) new → left new < left old
+pub less_left : (old new : Unheard) (x : LineInput) → IsNextOf old (next.Input x) new → left new < left old
 less_left old new x (can, inl gives) =
     let payload = gives.frame.payload in
     let all : length old.rest ≡ 4 + length payload + length new.rest =

@@ -15,7 +15,7 @@ use Rattle.jsp_model.specs.Quiet.{is_quiet}
 use Rattle.jsp_model.specs.Steps.{is_vote_to_abort}
 use Rattle.jsp_model.specs.Runs.{state_after}
 use Rattle.jsp_model.specs.Settling.{first_voting, turn_of, settle_step, places, first_unquiet}
-use Rattle.jsp_model.specs.House.{own_of, touched, Answers, Settles}
+use Rattle.jsp_model.specs.House.{own_of, touched, AnswersTurn, Settles}
 use Rattle.jsp_model.proofs.Closing.{free_run_spaces}
 use Rattle.jsp_drive.specs.Calls.{Turns}
 use Rattle.jsp_drive.proofs.Quieting.{quiet_first}
@@ -58,7 +58,7 @@ found_all t q (x ∷ xs) p h all =
 
 -- where no transaction votes, it is quiet at the end
 pub first_quiet : (old new : State) (steps : List Step) (answer : Settled) (p : ℕ) → state_after old steps ≡ new → own_of steps ≡ option_to_list (settle_step old)
-    → Answers old new answer → settle_step old ≡ None → first_unquiet old ≡ Some p → is_quiet new p ≡ true
+    → AnswersTurn old new answer → settle_step old ≡ None → first_unquiet old ≡ Some p → is_quiet new p ≡ true
 first_quiet old new steps settled.Voted p view own h none first = cc (h.2, none)
 first_quiet old new steps settled.Decided p view own h none first = cc (h.2, none)
 first_quiet old new steps settled.Quieted p view own h none first =

@@ -32,7 +32,7 @@ use Rattle.jsp_drive.specs.Heard.{framed}
 use Rattle.jsp_drive.specs.Line.{Unheard}
 use Rattle.jsp_drive.specs.Lines.{Pending, nothing, AreLines, pending, held_by}
 use Rattle.jsp_drive.specs.Tie.{is_hand_out, asked_in, HearsPiece, Asks, QuietsFirst, frame_for, Part, Tied, bytes_to}
-use Rattle.jsp_drive.specs.Calls.{Performs, frames_sent, Sends}
+use Rattle.jsp_drive.specs.Calls.{MakesAct, frames_sent, Sends}
 use Rattle.jsp_quiet.specs.Steady.{IsSteady}
 use Rattle.jsp_quiet.proofs.Steady.{steady_empty, steady_run}
 use Rattle.jsp_drive.proofs.Asking.{asks_keep, asked_in-append, asked_in_kept, hand_own}
@@ -128,7 +128,7 @@ pub record Said (st mid : State) (steps : List Step) : Type 0 where
   pub waits : (s : ℕ) → outbox_of mid s ≡ said_to s st steps
 
 module _ {S : Type 0} where
-  pub said_by : (a : Act) (st mid : State) (log log' : List Step) (lines lines' : Lines S) (p : Performs a st mid log log' lines lines') → Between st → Said st mid p.steps
+  pub said_by : (a : Act) (st mid : State) (log log' : List Step) (lines lines' : Lines S) (p : MakesAct a st mid log log' lines lines') → Between st → Said st mid p.steps
   said_by a st mid log log' lines lines' p b =
       let kept = asks_keep a st (own_of p.steps) mid (pending lines) (pending lines') p.asks in
       let keeps : list_any is_hand_out p.steps ≡ false = sym (hand_own p.steps) ∙ kept in
@@ -152,7 +152,7 @@ module _ {S : Type 0} where
     pub are_lines : AreLines lines'
 
   pub acted : (n : ℕ) (a : Act) (st mid now : State) (log log' log'' : List Step) (lines lines' : Lines S) (sent sent' : List Sent)
-      → Between st → Performs a st mid log log' lines lines' → Sends n mid now log' log'' sent sent'
+      → Between st → MakesAct a st mid log log' lines lines' → Sends n mid now log' log'' sent sent'
       → Acted n a st now log log'' lines lines' sent sent'
   acted n a st mid now log log' log'' lines lines' sent sent' b p q =
       let part = p.steps ++ q.steps in

@@ -51,7 +51,7 @@ pub record Serves (s : ℕ) (old new : State) (log log' : List Step) (line line'
 
 module _ {S : Type 0} where
   -- the steps of an act, before anything is handed out
-  pub record Performs (act : Act) (old new : State) (log log' : List Step) (lines lines' : HashMap ℕ Unheard S) : Type 0 where
+  pub record MakesAct (act : Act) (old new : State) (log log' : List Step) (lines lines' : HashMap ℕ Unheard S) : Type 0 where
     pub steps : List Step
     pub makes : Makes old new log log' steps
     pub asks : Asks act old (own_of steps) new (pending lines) (pending lines')

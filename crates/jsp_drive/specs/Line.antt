@@ -107,10 +107,10 @@ pub record GivesEnd (old : Unheard) (x : LineInput) (new : Unheard) : Type 0 whe
   pub closes : new ≡ with_phase old phase.Closed
 
 -- what `next` answers, and what is held then
-abbrev pub Answers : Unheard → Next → Unheard → Type 0
-Answers old (next.Input x) new = IsOpen old × (GivesFrame old x new ⊎ GivesEnd old x new)
-Answers old next.More new = IsOpen old × IsUnfinished (longest old.version) old.rest × (new ≡ old)
-Answers old next.Closed new = IsClosed old × (new ≡ old)
+abbrev pub IsNextOf : Unheard → Next → Unheard → Type 0
+IsNextOf old (next.Input x) new = IsOpen old × (GivesFrame old x new ⊎ GivesEnd old x new)
+IsNextOf old next.More new = IsOpen old × IsUnfinished (longest old.version) old.rest × (new ≡ old)
+IsNextOf old next.Closed new = IsClosed old × (new ≡ old)
 
 -- it may be acted, if it is an input
 abbrev pub is_next : Next → Bool

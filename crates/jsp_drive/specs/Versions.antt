@@ -55,16 +55,16 @@ pub record SplitsInto (v : Version) (bytes : List ℕ) (payloads : List (List �
 -- ---- whole streams
 
 -- the stream has these frames and no further one in the rest
-pub record Reads (v : Version) (stream : List ℕ) (payloads : List (List ℕ)) (rest : List ℕ) : Type 0 where
+pub record HasPayloads (v : Version) (stream : List ℕ) (payloads : List (List ℕ)) (rest : List ℕ) : Type 0 where
   pub split : SplitsInto v stream payloads rest
   pub ended : HasNoFrame (longest (version_behind v payloads)) rest
 
 -- the stream has a reading
 abbrev pub HasReading : Version → List ℕ → Type 0
-HasReading v stream = (payloads : List (List ℕ)) × (rest : List ℕ) × Reads v stream payloads rest
+HasReading v stream = (payloads : List (List ℕ)) × (rest : List ℕ) × HasPayloads v stream payloads rest
 
 -- and any two are the same
 abbrev pub HasOneReading : Version → List ℕ → Type 0
 HasOneReading v stream =
     (payloads others : List (List ℕ)) (rest other : List ℕ)
-    → Reads v stream payloads rest → Reads v stream others other → (payloads ≡ others) × (rest ≡ other)
+    → HasPayloads v stream payloads rest → HasPayloads v stream others other → (payloads ≡ others) × (rest ≡ other)

@@ -1,4 +1,5 @@
-//! A part of a history. Whoever keeps a long one seals it now and then: what was done goes, and a new era begins.
+//! A part of a history. Whoever keeps a long one seals it now and then: what was done goes, and a
+//! new era begins.
 use jsp_model::Step;
 
 /// An era that is over.

@@ -2,7 +2,7 @@
 ghost use Rattle.std.specs.Prelude.{◌≡◌, ◌++◌, ℕ, [], IfOk, OnOk, OnErr, IsOk, IsErr, IsTrue};
 ghost use Rattle.jsp_frame.specs.Stream.{HasNoFrame};
 ghost use Rattle.jsp_drive.specs.Versions.{longest};
-ghost use Rattle.jsp_drive.specs.Line.{start, with_rest, IsOpen, IsClosed, IsOutOfMemory, IsCutting, HearsNext, Answers, is_next};
+ghost use Rattle.jsp_drive.specs.Line.{start, with_rest, IsOpen, IsClosed, IsOutOfMemory, IsCutting, HearsNext, IsNextOf, is_next};
 ghost use Rattle.jsp_drive.specs.Giving.{Gave, FeedsStream, FollowsStream};
 
 use crate::hear::{LineInput, hear};
@@ -43,12 +43,12 @@ enum Phase {
 
 /// The bytes of one session that come in pieces, as what it asks by them.
 ///
-/// Clauses see the bytes that are in no frame yet, the version of the line behind those that are, and
-/// whether inputs can still come. Each frame is one input, in order, read in the version that the
-/// line has at it. It begins in version 1, and a `hello` changes it from the next frame on. A length
-/// past the limit of the version, 65,536 bytes in version 1 and 1,048,576 in version 2, is one
-/// fault, the last input. Once out of memory every `feed` and `next` is [`NoMemory`], and what is
-/// held then is left open.
+/// Clauses see the bytes that are in no frame yet, the version of the line behind those that are,
+/// and whether inputs can still come. Each frame is one input, in order, read in the version that
+/// the line has at it. It begins in version 1, and a `hello` changes it from the next frame on. A
+/// length past the limit of the version, 65,536 bytes in version 1 and 1,048,576 in version 2, is
+/// one fault, the last input. Once out of memory every `feed` and `next` is [`NoMemory`], and what
+/// is held then is left open.
 #[derive(Drop)]
 pub struct Line {
     alloc: Global,
@@ -104,13 +104,14 @@ impl Line {
         fed
     }
 
-    /// What the session asks by the next frame, which is cut off the rest, or why there is nothing. A
-    /// length past the limit is a fault as soon as its fourth byte is there, and the line is closed
-    /// from then on. A `hello` changes the version and the limit of what follows it, also of bytes
-    /// that are there already. Memory is taken only for a frame.
+    /// What the session asks by the next frame, which is cut off the rest, or why there is nothing.
+    /// A length past the limit is a fault as soon as its fourth byte is there, and the line is
+    /// closed from then on. A `hello` changes the version and the limit of what follows it, also of
+    /// bytes that are there already. Memory is taken only for a frame.
     pub fn next(&mut self) -> Result<Next, NoMemory>
-        ensures ok { IfOk result (λ next. Answers self.old next self.new) }
-        // By the stream: this is what the session asks next, and all was given where it is no input.
+        ensures ok { IfOk result (λ next. IsNextOf self.old next self.new) }
+        // By the stream: this is what the session asks next, and all was given where it is no
+        // input.
         ensures stream { IfOk result (λ next. FollowsStream self.old next self.new) }
         // What is given may be acted.
         ensures input { IfOk result (λ next. IsTrue (is_next next)) }
@@ -126,8 +127,9 @@ impl Line {
 
     /// The same, in a scratch space that is kept from frame to frame.
     pub fn next_with(&mut self, scratch: &mut Scratch) -> Result<Next, NoMemory>
-        ensures ok { IfOk result (λ next. Answers self.old next self.new) }
-        // By the stream: this is what the session asks next, and all was given where it is no input.
+        ensures ok { IfOk result (λ next. IsNextOf self.old next self.new) }
+        // By the stream: this is what the session asks next, and all was given where it is no
+        // input.
         ensures stream { IfOk result (λ next. FollowsStream self.old next self.new) }
         // What is given may be acted.
         ensures input { IfOk result (λ next. IsTrue (is_next next)) }

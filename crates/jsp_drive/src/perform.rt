@@ -1,7 +1,7 @@
 //! Makes the steps that an act asks for.
 ghost use Rattle.std.specs.Prelude.{◌≡◌, None, OnOk};
 ghost use Rattle.jsp_drive.specs.Lines.{AreLines};
-ghost use Rattle.jsp_drive.specs.Calls.{Performs, Turns};
+ghost use Rattle.jsp_drive.specs.Calls.{MakesAct, Turns};
 ghost use Rattle.jsp_drive.specs.declared.acts.Act.TheVariants as act_of;
 
 use crate::acts::Act;
@@ -25,7 +25,7 @@ pub(crate) fn perform<H: House>(
     requires lines { AreLines lines.old }
     requires bound { H.bound_of house.old ≡ None }
     ensures bound { H.bound_of house.new ≡ H.bound_of house.old }
-    ensures performs { OnOk result (Performs act.now (H.view house.old) (H.view house.new) steps.old.items steps.new.items lines.old lines.new) }
+    ensures performs { OnOk result (MakesAct act.now (H.view house.old) (H.view house.new) steps.old.items steps.new.items lines.old lines.new) }
 {
     match act {
         Act::Open { session } => act_on(house, Input::Open { session: *session }, steps),
@@ -50,7 +50,7 @@ fn piece<H: House>(
     requires lines { AreLines lines.old }
     requires bound { H.bound_of house.old ≡ None }
     ensures bound { H.bound_of house.new ≡ H.bound_of house.old }
-    ensures performs { OnOk result (Performs (act_of.Piece session bytes.now) (H.view house.old) (H.view house.new) steps.old.items steps.new.items lines.old lines.new) }
+    ensures performs { OnOk result (MakesAct (act_of.Piece session bytes.now) (H.view house.old) (H.view house.new) steps.old.items steps.new.items lines.old lines.new) }
 {
     if !house.is_open(session) {
         return Ok(());
@@ -72,7 +72,7 @@ fn shut<H: House>(
 ) -> Result<(), NoMemory>
     requires { AreLines lines.old }
     ensures bound { H.bound_of house.new ≡ H.bound_of house.old }
-    ensures performs { OnOk result (Performs (act_of.Shut session) (H.view house.old) (H.view house.new) steps.old.items steps.new.items lines.old lines.new) }
+    ensures performs { OnOk result (MakesAct (act_of.Shut session) (H.view house.old) (H.view house.new) steps.old.items steps.new.items lines.old lines.new) }
 {
     steps.reserve(1)?;
     drop_line(lines, session);

@@ -13,7 +13,8 @@ use jsp_state::{caller_of, named, place_of, templates_of};
 use jsp_types::{NoMemory, Raw};
 use std::alloc::Global;
 
-/// What a request for rows asks for: at most so many rows of a space that one of the templates matches.
+/// What a request for rows asks for: at most so many rows of a space that one of the templates
+/// matches.
 #[derive(Clone, Copy)]
 pub struct RowsAsked<'a> {
     pub form: Form,

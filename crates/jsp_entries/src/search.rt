@@ -99,8 +99,8 @@ fn is_negative(asked: &RowsAsked) -> bool
     asked.timeout < 0
 }
 
-/// Whether the request waits, which is given these rows. One that is given some doesn't, so nothing is
-/// searched for again.
+/// Whether the request waits, which is given these rows. One that is given some doesn't, so nothing
+/// is searched for again.
 fn would_wait(
     alloc: Global,
     state: &Core,
@@ -125,8 +125,8 @@ fn would_wait(
     Ok(has_conflict(state, &blocked))
 }
 
-/// The request as it waits, if it waits, made once. One that is given rows, or doesn't want to wait,
-/// takes no memory.
+/// The request as it waits, if it waits, made once. One that is given rows, or doesn't want to
+/// wait, takes no memory.
 fn to_wait(
     alloc: Global,
     state: &Core,
@@ -186,8 +186,8 @@ pub fn accept_search(
     }
 }
 
-/// Where a search by several values had to look at many rows, more is learned of how to find such ones
-/// sooner.
+/// Where a search by several values had to look at many rows, more is learned of how to find such
+/// ones sooner.
 fn learn(state: &mut Core, space: u64, asked: &RowsAsked, rows: &[u64])
     ensures { state.new ≡ state.old }
 {
@@ -255,8 +255,8 @@ fn request_named(state: &Core, number: u64) -> Option<(Form, Option<u64>)>
     }
 }
 
-/// What a request for rows is answered at once: the entries of the rows that it is given, that there
-/// are none, or nothing where it waits.
+/// What a request for rows is answered at once: the entries of the rows that it is given, that
+/// there are none, or nothing where it waits.
 pub fn answer_search(
     alloc: Global,
     state: &Core,
@@ -278,8 +278,8 @@ pub fn answer_search(
     Ok(Some(answer_with(asked.form, id, entries)))
 }
 
-/// The answer to a request for rows that is given these entries (JavaSpaces: the entry, or null; for
-/// many, this profile's own: a list, or null).
+/// The answer to a request for rows that is given these entries (JavaSpaces: the entry, or null;
+/// for many, this profile's own: a list, or null).
 pub fn answer_with(form: Form, id: u64, entries: Items<Entry>) -> Reply
     ensures { result ≡ reply_with form id entries }
 {

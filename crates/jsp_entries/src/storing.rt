@@ -26,7 +26,8 @@ pub(crate) fn store(
     Ok(())
 }
 
-/// Stores the rows beside registrations that are owed them: at once, or where these are very many later.
+/// Stores the rows beside registrations that are owed them: at once, or where these are very many
+/// later.
 fn store_beside(
     classes: &Classes,
     stored: &mut Rows,

@@ -7,8 +7,8 @@
 mod door;
 mod end;
 mod lines;
-mod run;
 mod served;
+mod threads;
 
 pub use door::{Arrival, Door};
 pub use jsp_closing::{Closed, LineReport, RunFault};
@@ -17,4 +17,4 @@ pub use jsp_line::{
     AnswerWriter, Clock, Counted, Counts, Floor, Gate, Hangup, Health, Left, LineDone, LineEnd,
     ReadDone, Shared, ShutFor, SpaceCounts, Start, Transcript, WriteDone,
 };
-pub use run::{Bounds, run_house};
+pub use threads::{Bounds, run_house};

@@ -64,8 +64,8 @@ enum Aspect {
     Kinds,
 }
 
-/// The classes that a client knows whole: each was declared, and so was its parent before it. All else about classes is
-/// for the server to say.
+/// The classes that a client knows whole: each was declared, and so was its parent before it. All
+/// else about classes is for the server to say.
 #[derive(Drop)]
 pub struct Classes {
     alloc: Global,
@@ -101,8 +101,9 @@ impl Classes {
         Ok(())
     }
 
-    /// Why a server refuses a request's entries or templates, where the classes that are known say so. A fault where the
-    /// request is in a short form, and has a field that its class hasn't: it isn't to be sent.
+    /// Why a server refuses a request's entries or templates, where the classes that are known say
+    /// so. A fault where the request is in a short form, and has a field that its class hasn't: it
+    /// isn't to be sent.
     pub fn check(&self, request: &Request) -> Result<Option<Misfit>, LineFault> {
         match self.misfit(request, Aspect::Names)? {
             Some(misfit) if request.is_short() => Err(LineFault::Unfit(misfit)),

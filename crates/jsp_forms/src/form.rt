@@ -1,4 +1,5 @@
-//! The operations, with the members of each: what a line is checked against, and what `help` prints.
+//! The operations, with the members of each: what a line is checked against, and what `help`
+//! prints.
 
 /// What a member's value is, in JSON and in the words of a short form.
 #[derive(Clone, Copy, PartialEq, Eq)]
@@ -186,8 +187,9 @@ const SET: Member = member!("set", Number, Place::Word);
 
 const VERSION: Member = member!("version", Number, Place::Word);
 
-/// A form: its name, its other name where it has one, the operation that it asks where that has another name, what it is
-/// for where that matters to the client, its members, what it does, and an example.
+/// A form: its name, its other name where it has one, the operation that it asks where that has
+/// another name, what it is for where that matters to the client, its members, what it does, and an
+/// example.
 macro_rules! form {
     ($name:literal, $members:expr, $about:literal, $example:literal) => {
         form!($name, None, $name, Other, $members, $about, $example)
@@ -214,7 +216,8 @@ macro_rules! form {
     };
 }
 
-/// Every operation of the protocol, and behind them the client's own, none of which the protocol's JSON has.
+/// Every operation of the protocol, and behind them the client's own, none of which the protocol's
+/// JSON has.
 pub(crate) static FORMS: [Form; 27] = [
     form!(
         "declare" for Declare,

@@ -5,7 +5,8 @@ use crate::request::Request;
 use serde_json::{Map, Value as Json};
 use std::alloc::Global;
 
-/// The request of a line of JSON. Which members it has is checked, and not what they are: that the server says.
+/// The request of a line of JSON. Which members it has is checked, and not what they are: that the
+/// server says.
 pub(crate) fn read_json(alloc: Global, line: &str) -> Result<Request, LineFault> {
     let Json::Object(members) = Json::from_str(alloc, line)? else {
         return Err(LineFault::NoOperation);

@@ -9,8 +9,9 @@ const MOST_BYTES: usize = 64;
 #[derive(Clone, Copy)]
 pub(crate) struct Nearest<'n> {
     word: &'n str,
-    /// A name is near where fewer slips than these lead to the word: a letter that is missing, added or another, or two
-    /// that are swapped. At first these are three, and fewer at a short word.
+    /// A name is near where fewer slips than these lead to the word: a letter that is missing,
+    /// added or another, or two that are swapped. At first these are three, and fewer at a short
+    /// word.
     bound: usize,
     name: Option<&'n str>,
 }

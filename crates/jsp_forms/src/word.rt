@@ -26,7 +26,8 @@ impl Mode {
     }
 }
 
-/// Cuts a line at its blanks. A comma is a word of its own. What is quoted is cut nowhere, and keeps its quotes.
+/// Cuts a line at its blanks. A comma is a word of its own. What is quoted is cut nowhere, and
+/// keeps its quotes.
 pub(crate) fn words_of(alloc: Global, line: &str) -> Result<Vec<String>, LineFault> {
     let mut words = Vec::new(alloc);
     let mut word = String::new(alloc);

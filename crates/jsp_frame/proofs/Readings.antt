@@ -4,7 +4,7 @@ use Rattle.std.proofs.lemmas.Bool.{cases_lt}
 use Rattle.std.proofs.lemmas.List.{take-append-drop, length-take-le, get_or-take, get_or-drop, get_or_past}
 use Rattle.std.proofs.lemmas.Nat.{be_bytes_4, from_be_bytes-to_be_bytes_4}
 use Rattle.std.specs.Int.{w32, to_be_bytes}
-use Rattle.jsp_frame.specs.Stream.{frame_of, named_length, HasNoFrame, BeginsWith, SplitsInto, Reads}
+use Rattle.jsp_frame.specs.Stream.{frame_of, named_length, HasNoFrame, BeginsWith, SplitsInto, HasFrames}
 use Rattle.jsp_frame.specs.Reading.{EndsIn, HasReading}
 use Rattle.jsp_frame.proofs.Streams.{SplitsInto-nil, SplitsInto-join, SplitsInto-frame}
 
@@ -40,8 +40,8 @@ no_frame limit payload rest bytes fits within is none =
 
 -- A reading has every frame that splits off, and goes on with a reading of the rest.
 pub Reads-goes_on : (limit : ℕ) (ps all : List (List ℕ)) (stream rest last : List ℕ) → limit < 2 ^ 32
-    → SplitsInto limit stream ps rest → Reads limit stream all last
-    → (qs : List (List ℕ)) × (all ≡ ps ++ qs) × Reads limit rest qs last
+    → SplitsInto limit stream ps rest → HasFrames limit stream all last
+    → (qs : List (List ℕ)) × (all ≡ ps ++ qs) × HasFrames limit rest qs last
 Reads-goes_on limit [] all stream rest last fits split reads =
     let split_rest : SplitsInto limit rest all last = record { within = reads.split.within; whole = sym split.whole ∙ reads.split.whole } in
     (all, refl, record { split = split_rest; ended = reads.ended })
@@ -55,7 +55,7 @@ Reads-goes_on limit (p ∷ ps) (q ∷ qs) stream rest last fits split reads =
     sym (append_assoc (frame_of p) (flat_map frame_of ps) rest) ∙ sym split.whole ∙ reads.split.whole ∙ append_assoc (frame_of q) (flat_map frame_of qs) last in
     let first = one_frame p q behind behind_q (omega (arith, split.within.0)) (omega (arith, reads.split.within.0)) same in
     let split_behind : SplitsInto limit behind ps rest = record { within = split.within.1; whole = refl } in
-    let reads_behind : Reads limit behind qs last = record { split = record { within = reads.split.within.1; whole = first.1 }; ended = reads.ended } in
+    let reads_behind : HasFrames limit behind qs last = record { split = record { within = reads.split.within.1; whole = first.1 }; ended = reads.ended } in
     let more = Reads-goes_on limit ps qs behind rest last fits split_behind reads_behind in
     (more.0, ap₂ (λ x xs. x ∷ xs) (sym first.0) more.1, more.2)
 
@@ -68,7 +68,7 @@ no_more limit bytes (p ∷ ps) rest fits none split =
 
 -- two readings are the same
 pub Reads-unique : (limit : ℕ) (stream : List ℕ) (ps qs : List (List ℕ)) (rest last : List ℕ) → limit < 2 ^ 32
-    → Reads limit stream ps rest → Reads limit stream qs last → (ps ≡ qs) × (rest ≡ last)
+    → HasFrames limit stream ps rest → HasFrames limit stream qs last → (ps ≡ qs) × (rest ≡ last)
 Reads-unique limit stream ps qs rest last fits one two =
     let on = Reads-goes_on limit ps qs stream rest last fits one.split two in
     let none = no_more limit rest on.0 last fits one.ended on.2.split in
@@ -158,6 +158,6 @@ Reads-exists limit stream bytes = some_reading (length stream + 1) limit stream 
 
 -- what `frames_of` answers is the reading
 pub EndsIn-Reads : (limit : ℕ) (stream : List ℕ) (ps : List (List ℕ)) (too_long : Bool) (rest : List ℕ)
-    → SplitsInto limit stream ps rest → EndsIn too_long limit rest → Reads limit stream ps rest
+    → SplitsInto limit stream ps rest → EndsIn too_long limit rest → HasFrames limit stream ps rest
 EndsIn-Reads limit stream ps true rest split ended = record { split = split; ended = inr ended }
 EndsIn-Reads limit stream ps false rest split ended = record { split = split; ended = inl ended }

@@ -2,7 +2,7 @@
 use Rattle.std.specs.Prelude.{◌≡◌, ℕ, List, map, flat_map, Bool, true, false, Vec}
 use Rattle.std.specs.Bool.{OnFalse}
 use Rattle.std.specs.declared.alloc.Global.{Global}
-use Rattle.jsp_frame.specs.Stream.{IsUnfinished, IsTooLong, SplitsInto, Reads}
+use Rattle.jsp_frame.specs.Stream.{IsUnfinished, IsTooLong, SplitsInto, HasFrames}
 use Rattle.jsp_frame.specs.Unframer.{Incoming, IsOpen}
 
 abbrev pub payloads_of : List (Vec ℕ Global) → List (List ℕ)
@@ -25,13 +25,13 @@ pub record IsReading (limit : ℕ) (stream : List ℕ) (payloads : List (List �
 
 -- the stream has a reading
 abbrev pub HasReading : ℕ → List ℕ → Type 0
-HasReading limit stream = (payloads : List (List ℕ)) × (rest : List ℕ) × Reads limit stream payloads rest
+HasReading limit stream = (payloads : List (List ℕ)) × (rest : List ℕ) × HasFrames limit stream payloads rest
 
 -- and any two are the same
 abbrev pub HasOneReading : ℕ → List ℕ → Type 0
 HasOneReading limit stream =
     (payloads others : List (List ℕ)) (rest other : List ℕ)
-    → Reads limit stream payloads rest → Reads limit stream others other → (payloads ≡ others) × (rest ≡ other)
+    → HasFrames limit stream payloads rest → HasFrames limit stream others other → (payloads ≡ others) × (rest ≡ other)
 
 -- All frames that are there are taken: a stream that was split into the payloads before and the old
 -- rest is split into the payloads after and the new rest.

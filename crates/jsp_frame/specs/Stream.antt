@@ -39,6 +39,6 @@ pub record SplitsInto (limit : ℕ) (bytes : List ℕ) (payloads : List (List �
   pub whole : bytes ≡ flat_map frame_of payloads ++ rest
 
 -- the stream has these frames and no further one in the rest
-pub record Reads (limit : ℕ) (stream : List ℕ) (payloads : List (List ℕ)) (rest : List ℕ) : Type 0 where
+pub record HasFrames (limit : ℕ) (stream : List ℕ) (payloads : List (List ℕ)) (rest : List ℕ) : Type 0 where
   pub split : SplitsInto limit stream payloads rest
   pub ended : HasNoFrame limit rest

@@ -38,11 +38,11 @@ abbrev pub IsOutOfMemory : Incoming → Type 0
 IsOutOfMemory u = u.phase ≡ phase.NoMemory
 
 -- what `next` answers, and what is held then
-abbrev pub Answers : Incoming → Cut → Incoming → Type 0
-Answers old (Frame payload) new =
+abbrev pub CutsNext : Incoming → Cut → Incoming → Type 0
+CutsNext old (Frame payload) new =
     IsOpen old × BeginsWith old.limit old.rest payload.items new.rest × (new ≡ with_rest old new.rest)
-Answers old More new = IsOpen old × IsUnfinished old.limit old.rest × (new ≡ old)
-Answers old TooLong new =
+CutsNext old More new = IsOpen old × IsUnfinished old.limit old.rest × (new ≡ old)
+CutsNext old TooLong new =
     (IsPastLimit old ⊎ (IsOpen old × IsTooLong old.limit old.rest)) × (new ≡ with_phase old phase.TooLong)
 
 -- what is cut off the front of some bytes, and the bytes that it leaves

@@ -52,9 +52,10 @@ impl Model for Unframer {
 
 impl Unframer {
     ghost use Rattle.jsp_frame.specs.Stream.{HasNoFrame};
-    ghost use Rattle.jsp_frame.specs.Unframer.{start, with_limit, with_rest, IsOpen, IsPastLimit, IsOutOfMemory, Answers};
+    ghost use Rattle.jsp_frame.specs.Unframer.{start, with_limit, with_rest, IsOpen, IsPastLimit, IsOutOfMemory, CutsNext};
 
-    /// Before the first byte of a stream whose payloads have at most `limit` bytes. It takes no memory.
+    /// Before the first byte of a stream whose payloads have at most `limit` bytes. It takes no
+    /// memory.
     pub fn new(alloc: Global, limit: u32) -> Unframer
         ensures { result ≡ start limit }
     {
@@ -66,8 +67,8 @@ impl Unframer {
         }
     }
 
-    /// Appends a piece of any length to the rest. After `TooLong` the piece is dropped, and no memory
-    /// is taken.
+    /// Appends a piece of any length to the rest. After `TooLong` the piece is dropped, and no
+    /// memory is taken.
     pub fn feed(&mut self, piece: &[u8]) -> Result<(), NoMemory>
         ensures appended { IsOpen self.old
             → OnOk result (self.new ≡ with_rest self.old (self.old.rest ++ piece.now)) }
@@ -88,11 +89,11 @@ impl Unframer {
         }
     }
 
-    /// Cuts the next frame off the rest, or says why there is none. A payload of exactly the limit is
-    /// a frame; a length past it is `TooLong` as soon as its fourth byte is there, and from then on.
-    /// Memory is taken only for a frame.
+    /// Cuts the next frame off the rest, or says why there is none. A payload of exactly the limit
+    /// is a frame; a length past it is `TooLong` as soon as its fourth byte is there, and from then
+    /// on. Memory is taken only for a frame.
     pub fn next(&mut self) -> Result<Cut, NoMemory>
-        ensures ok { IfOk result (λ cut. Answers self.old cut self.new) }
+        ensures ok { IfOk result (λ cut. CutsNext self.old cut self.new) }
         ensures no_frame { IsOpen self.old → HasNoFrame self.old.limit self.old.rest → IsOk result }
         ensures past_limit { IsPastLimit self.old → IsOk result }
         ensures out_of_memory { IsOutOfMemory self.old → IsErr result }

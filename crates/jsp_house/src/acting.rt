@@ -10,14 +10,14 @@ ghost use Rattle.jsp_model.specs.declared.limits.TheConstants.{LAST_SESSION};
 use crate::finishing::finish;
 use crate::making::make;
 use crate::performing::perform_ready;
-use jsp_audit::is_open;
 use jsp_core::LiveImage;
+use jsp_machine::is_open;
 use jsp_model::{Input, LAST_SESSION, Step, Stopped, Why};
 use jsp_types::Items;
 use std::alloc::Global;
 
-/// Finishes what an earlier call left and quiets what the input's own step touches, also where the input
-/// isn't accepted; then makes that step, and what follows from it.
+/// Finishes what an earlier call left and quiets what the input's own step touches, also where the
+/// input isn't accepted; then makes that step, and what follows from it.
 pub(crate) fn act(
     alloc: Global,
     image: &mut LiveImage,
@@ -68,8 +68,8 @@ pub(crate) fn act_ready(
     perform_ready(alloc, image, debt, step_of(alloc, input), bound, log)
 }
 
-/// Makes what an earlier call left, what is due, and what the spaces owe that the input touches. All that
-/// was touched stays owed.
+/// Makes what an earlier call left, what is due, and what the spaces owe that the input touches.
+/// All that was touched stays owed.
 pub(crate) fn make_ready(
     alloc: Global,
     image: &mut LiveImage,
@@ -131,8 +131,8 @@ fn step_of(alloc: Global, input: Input) -> Step
     }
 }
 
-/// Opens a session where nothing is left and nothing is due. That touches nothing and makes nothing due, so no call
-/// that is stopped has opened one.
+/// Opens a session where nothing is left and nothing is due. That touches nothing and makes nothing
+/// due, so no call that is stopped has opened one.
 fn open_ready(
     alloc: Global,
     image: &mut LiveImage,

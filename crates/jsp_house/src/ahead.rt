@@ -1,6 +1,6 @@
-//! What spaces apply ahead of a call, a part at a time, so that the call itself has little to apply. No step is
-//! made by that, and the state is the same. Nothing here fails: where memory for a list of spaces is refused,
-//! the call applies all by itself.
+//! What spaces apply ahead of a call, a part at a time, so that the call itself has little to
+//! apply. No step is made by that, and the state is the same. Nothing here fails: where memory for
+//! a list of spaces is refused, the call applies all by itself.
 ghost use Rattle.std.specs.Prelude.{◌≡◌};
 
 use crate::settling::settle_step;
@@ -12,8 +12,8 @@ use std::alloc::Global;
 /// In how many spaces one part applies something at most.
 const MOST_SPACES: u64 = 4;
 
-/// Some of what was decided is applied in the spaces that the input touches, or where a row ends by its reading
-/// of the clock. Whether nothing is left there.
+/// Some of what was decided is applied in the spaces that the input touches, or where a row ends by
+/// its reading of the clock. Whether nothing is left there.
 pub(crate) fn apply_before(alloc: Global, image: &mut LiveImage, input: &Input) -> bool
     ensures { image.new ≡ image.old }
 {
@@ -26,7 +26,8 @@ pub(crate) fn apply_before(alloc: Global, image: &mut LiveImage, input: &Input) 
     }
 }
 
-/// The same where the next vote or decision touches a space, or in all spaces where none is to come.
+/// The same where the next vote or decision touches a space, or in all spaces where none is to
+/// come.
 pub(crate) fn apply_before_turn(alloc: Global, image: &mut LiveImage) -> bool
     ensures { image.new ≡ image.old }
 {

@@ -6,8 +6,8 @@ ghost use Rattle.jsp_model.specs.Outboxes.{outbox_of};
 ghost use Rattle.jsp_house.specs.Making.{KeepsLog};
 
 use crate::making::{enter, is_full, reserve_places};
-use jsp_audit::{hand_out, is_open, shut, waiting};
 use jsp_core::{Core, LiveImage};
+use jsp_machine::{hand_out, is_open, shut, waiting};
 use jsp_model::{Step, Stopped, Why};
 use jsp_reply::Said;
 use jsp_types::NoMemory;

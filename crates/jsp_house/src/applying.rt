@@ -1,11 +1,11 @@
-//! The spaces that are about to be touched apply what was decided before, and registrations are told what
-//! commits tell them. No step is made by that, and the state is the same. Nothing here fails: where memory
-//! for a list of spaces is refused, all spaces apply what was decided.
+//! The spaces that are about to be touched apply what was decided before, and registrations are
+//! told what commits tell them. No step is made by that, and the state is the same. Nothing here
+//! fails: where memory for a list of spaces is refused, all spaces apply what was decided.
 ghost use Rattle.std.specs.Prelude.{◌≡◌};
 
 use crate::to_come::Coming;
-use jsp_audit::{due, touches};
 use jsp_core::LiveImage;
+use jsp_machine::{due, touches};
 use jsp_model::Step;
 use std::alloc::Global;
 

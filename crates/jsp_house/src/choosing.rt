@@ -6,15 +6,15 @@ ghost use Rattle.jsp_model.specs.Requests.{rows_asked};
 ghost use Rattle.jsp_model.specs.Steps.{has_its_rows};
 ghost use Rattle.jsp_model.specs.declared.limits.TheConstants.{LAST_TIME};
 
-use jsp_audit::{choose, request_for_rows};
 use jsp_core::Core;
+use jsp_machine::{choose, request_for_rows};
 use jsp_reply::Refusal;
 use jsp_types::{Items, NoMemory};
 use jsp_wire::Ask;
 use std::alloc::Global;
 
-/// The rows that the request is given: of those that it may be given the ones with the least numbers,
-/// and none where there is none, or where the request is refused or isn't for rows.
+/// The rows that the request is given: of those that it may be given the ones with the least
+/// numbers, and none where there is none, or where the request is refused or isn't for rows.
 pub(crate) fn choose_rows(
     alloc: Global,
     state: &Core,

@@ -3,14 +3,14 @@ ghost use Rattle.std.specs.Prelude.{◌≡◌, ◌≤◌};
 
 use crate::applying::apply_unless_cleared;
 use crate::unquiet::are_quiet;
-use jsp_audit::{first_end, touches};
 use jsp_core::LiveImage;
+use jsp_machine::{first_end, touches};
 use jsp_model::{Item, Step};
 use std::alloc::Global;
 use std::cmp::min;
 
-/// The time of the next end, or the one before it where a space isn't quiet that this touches: it couldn't end there. The
-/// reading, where nothing ends by then.
+/// The time of the next end, or the one before it where a space isn't quiet that this touches: it
+/// couldn't end there. The reading, where nothing ends by then.
 pub(crate) fn next_time(alloc: Global, image: &mut LiveImage, reading: u64) -> u64
     ensures within { result ≤ reading }
     ensures same { image.new ≡ image.old }

@@ -7,7 +7,7 @@ ghost use Rattle.jsp_model.specs.Quiet.{are_quiet};
 ghost use Rattle.jsp_model.specs.Touches.{touches as touched_by};
 ghost use Rattle.jsp_model.specs.Steps.{is_legal, next};
 ghost use Rattle.jsp_quiet.specs.Quieting.{quiets};
-ghost use Rattle.jsp_audit.specs.Judging.{refusal_in};
+ghost use Rattle.jsp_machine.specs.Judging.{refusal_in};
 ghost use Rattle.jsp_house.specs.Making.{KeepsLog};
 ghost use Rattle.jsp_house.specs.Owing.{IsDone};
 
@@ -16,9 +16,9 @@ use crate::making::make;
 use crate::owing::owe;
 use crate::quieting::quieting_of;
 use crate::to_come::Coming;
-use jsp_audit::{due, touches};
 use jsp_core::LiveImage;
 use jsp_lease::Item;
+use jsp_machine::{due, touches};
 use jsp_model::{Step, Why};
 use jsp_reply::Refusal;
 use jsp_types::NoMemory;
@@ -74,9 +74,9 @@ pub(crate) fn make_owing(
     make(alloc, image, step, refused, bound, log)
 }
 
-/// The next step that nobody has to ask for: one that quiets a space that is owed; else what is due,
-/// once the spaces that it touches are quiet; else one that quiets a space that the step to come
-/// touches.
+/// The next step that nobody has to ask for: one that quiets a space that is owed; else what is
+/// due, once the spaces that it touches are quiet; else one that quiets a space that the step to
+/// come touches.
 fn next_step<T: Coming>(
     alloc: Global,
     image: &mut LiveImage,

@@ -2,11 +2,11 @@
 ghost use Rattle.std.specs.Prelude.{◌≡◌, ◌<◌, ◌≤◌, ◌+◌, ◌-◌, ◌++◌, ◌∷◌, [], OnOk, OnErr, IfErr, IsTrue, length, vec_len, vec_capacity};
 ghost use Rattle.jsp_model.specs.House.{MayStop, is_full as reaches};
 ghost use Rattle.jsp_model.specs.Steps.{is_legal, next};
-ghost use Rattle.jsp_audit.specs.Judging.{refusal_in};
+ghost use Rattle.jsp_machine.specs.Judging.{refusal_in};
 ghost use Rattle.jsp_house.specs.Making.{KeepsLog};
 
-use jsp_audit::apply_judged;
 use jsp_core::{Core, LiveImage};
+use jsp_machine::apply_judged;
 use jsp_model::{Step, Why};
 use jsp_reply::Refusal;
 use jsp_table::make_room;
@@ -71,8 +71,8 @@ fn make_within(
     Ok(())
 }
 
-/// Makes room in the log for a step, and for a closing of each session that is open after it: of those
-/// that are open now, and of one that it may open.
+/// Makes room in the log for a step, and for a closing of each session that is open after it: of
+/// those that are open now, and of one that it may open.
 pub(crate) fn reserve_places(state: &Core, log: &mut Vec<Step>) -> Result<(), NoMemory>
     ensures items { log.new.items ≡ log.old.items }
     ensures len { vec_len log.new ≡ vec_len log.old }

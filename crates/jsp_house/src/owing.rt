@@ -31,7 +31,8 @@ fn owe_one(debt: &mut Vec<u64>, space: u64) -> Result<(), NoMemory>
     Ok(())
 }
 
-/// Puts all that is owed in one list: what a call left that was made beside the rest comes behind it.
+/// Puts all that is owed in one list: what a call left that was made beside the rest comes behind
+/// it.
 pub(crate) fn join(debt: &mut Vec<u64>, latest: &mut Vec<u64>) -> Result<(), Stopped>
     ensures same { debt.new.items ++ latest.new.items ≡ debt.old.items ++ latest.old.items }
     ensures joined { OnOk result (latest.new.items ≡ []) }

@@ -5,14 +5,14 @@ ghost use Rattle.jsp_model.specs.House.{Covers, OwesOnce, MayStop, WasFull, Fini
 ghost use Rattle.jsp_model.specs.Limits.{IsWithinLimits};
 ghost use Rattle.jsp_model.specs.Touches.{touches as touched_by};
 ghost use Rattle.jsp_model.specs.Steps.{next};
-ghost use Rattle.jsp_audit.specs.Judging.{refusal_in};
+ghost use Rattle.jsp_machine.specs.Judging.{refusal_in};
 ghost use Rattle.jsp_house.specs.Making.{KeepsLog, Performs, MakesOwn, may_come, has_rows};
 ghost use Rattle.jsp_house.specs.Owing.{IsDone};
 
 use crate::choosing::choose_rows;
 use crate::finishing::{finish, make_owing};
-use jsp_audit::refusal;
 use jsp_core::{Core, LiveImage};
+use jsp_machine::refusal;
 use jsp_model::{Step, Stopped, Why};
 use jsp_reply::Refusal;
 use jsp_types::NoMemory;

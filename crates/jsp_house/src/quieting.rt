@@ -7,8 +7,8 @@ ghost use Rattle.jsp_model.specs.House.{comes_in_turn};
 ghost use Rattle.jsp_quiet.specs.Quieting.{quiets};
 
 use crate::unquiet::count_spaces;
-use jsp_audit::choose;
 use jsp_core::{Core, LiveImage};
+use jsp_machine::choose;
 use jsp_model::{Blocked, Step};
 use jsp_state::{contains, first_answerable, first_grantable};
 use jsp_types::NoMemory;

@@ -11,9 +11,9 @@ use crate::clock::next_time;
 use crate::owing::{forget_owed, join};
 use crate::performing::clear;
 use crate::settling::{all_quiet, settle, turn};
-use jsp_audit::{empty_image, is_open};
 use jsp_beside::InParts;
 use jsp_core::{Keeping, LiveImage};
+use jsp_machine::{empty_image, is_open};
 use jsp_model::{
     Backlog, Config, House, Image, Input, Settled, SpaceCounts, Step, Stopped, TransactionCounts,
     Why,
@@ -23,7 +23,8 @@ use jsp_types::NoMemory;
 use std::alloc::Global;
 use std::marker::PhantomData;
 
-/// A house over a state. `K` only tells the types of the two houses apart: how rows are found is a value.
+/// A house over a state. `K` only tells the types of the two houses apart: how rows are found is a
+/// value.
 #[derive(Drop)]
 pub struct StateHouse<K> {
     alloc: Global,
@@ -64,8 +65,9 @@ impl StateHouse<OneByOne> {
 }
 
 impl StateHouse<ByHints> {
-    /// The empty house of a config. It owes nothing, and its log has no bound. What hints are keyed by
-    /// comes from the seed, which clients aren't to know: then none can aim many rows at one list.
+    /// The empty house of a config. It owes nothing, and its log has no bound. What hints are keyed
+    /// by comes from the seed, which clients aren't to know: then none can aim many rows at one
+    /// list.
     pub fn new(alloc: Global, config: &Config, seed: u64) -> Result<Hall, NoMemory>
         ensures view { IfOk result (λ h. h.image ≡ empty config.now) }
         ensures debt { IfOk result (λ h. h.debt.items ++ h.latest.items ≡ []) }
@@ -76,8 +78,8 @@ impl StateHouse<ByHints> {
 }
 
 impl<K> StateHouse<K> {
-    /// How many decisions a space hasn't applied. A house whose rows are looked at one by one applies each
-    /// at once. Takes no memory.
+    /// How many decisions a space hasn't applied. A house whose rows are looked at one by one
+    /// applies each at once. Takes no memory.
     pub fn pending(&self, space: u64) -> u64 {
         self.image.state().rows.pending(space) as u64
     }

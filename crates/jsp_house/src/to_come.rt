@@ -4,8 +4,8 @@ ghost use Rattle.jsp_model.specs.declared.step.Step.{Step};
 ghost use Rattle.jsp_model.specs.House.{step_of};
 ghost use Rattle.jsp_model.specs.Touches.{touches as touched_by};
 
-use jsp_audit::{Spaces, ask_touches, touches};
 use jsp_core::LiveImage;
+use jsp_machine::{Spaces, ask_touches, touches};
 use jsp_model::{Input, Step};
 use jsp_types::NoMemory;
 use std::alloc::Global;

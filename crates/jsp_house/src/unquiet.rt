@@ -4,8 +4,8 @@ ghost use Rattle.jsp_model.specs.Quiet.{are_quiet as all_quiet};
 ghost use Rattle.jsp_model.specs.Limits.{IsWithinLimits};
 ghost use Rattle.jsp_model.specs.Settling.{first_unquiet as first_of_all};
 
-use jsp_audit::is_quiet;
 use jsp_core::LiveImage;
+use jsp_machine::is_quiet;
 
 /// How many spaces there are.
 pub(crate) fn count_spaces(image: &LiveImage) -> u64
@@ -23,7 +23,8 @@ pub(crate) fn first_unquiet(image: &LiveImage) -> Option<u64>
     (0..count).find(|space| !is_quiet(image, *space))
 }
 
-/// The same. The spaces up to it have applied what was decided, and their registrations were told of it.
+/// The same. The spaces up to it have applied what was decided, and their registrations were told
+/// of it.
 pub(crate) fn first_to_quiet(image: &mut LiveImage) -> Option<u64>
     ensures found { result ≡ first_of_all image.old }
     ensures same { image.new ≡ image.old }

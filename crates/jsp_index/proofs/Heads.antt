@@ -23,7 +23,7 @@ use Rattle.jsp_index.specs.Keys.{row_keys}
 use Rattle.jsp_index.specs.Changing.{HasSameKeys}
 use Rattle.jsp_index.specs.declared.starts.Unseen.{Unseen}
 use Rattle.jsp_index.specs.declared.starts.Unseen.TheVariants.{Nothing, Taken, Hidden, Held}
-use Rattle.jsp_index.specs.declared.starts.Start.{Start}
+use Rattle.jsp_index.specs.declared.starts.ListStart.{ListStart}
 use Rattle.jsp_index.specs.Starts.{number_at, start_at}
 use Rattle.jsp_index.specs.Passed.{is_untaken, is_public, is_free, is_open, AreAbove, IsAbove, ArePassed, AreLower, IsOverAll, AreListed}
 use Rattle.jsp_index.proofs.Covering.{and_both, eqb_eq, same_keys}
@@ -64,15 +64,15 @@ found_positive n (x ∷ rows) r h pos = at (eqb x.number n) refl (λ there. foun
   at false e rest = rest (ap (λ b. cond b (Some x) (row_numbered n rows)) (sym e) ∙ h)
 
 -- where nothing is kept, each key starts at 0
-pub none_started : {S : Type 0} (starts : HashMap ℕ Start S) → starts.entries ≡ [] → (u : Unseen) (k : ℕ) → start_at u starts k ≡ 0
+pub none_started : {S : Type 0} (starts : HashMap ℕ ListStart S) → starts.entries ≡ [] → (u : Unseen) (k : ℕ) → start_at u starts k ≡ 0
 none_started starts none u k = ap (λ es. option_map_or (number_at u) (lookup (eqb k) es) 0) none
 
-pub none_lower : {S : Type 0} (old new : HashMap ℕ Start S) → new.entries ≡ [] → AreLower old new
+pub none_lower : {S : Type 0} (old new : HashMap ℕ ListStart S) → new.entries ≡ [] → AreLower old new
 none_lower old new none u k = less (start_at u new k) (start_at u old k) (none_started new none u k) where
   less : (a b : ℕ) → a ≡ 0 → a ≤ b
   less a b e = omega arith
 
-pub none_where_empty : {S : Type 0} (len : ℕ) (starts : HashMap ℕ Start S) → len ≡ hash_map_len starts → OnTrue (eqb len 0) ((u : Unseen) (k : ℕ) → start_at u starts k ≡ 0)
+pub none_where_empty : {S : Type 0} (len : ℕ) (starts : HashMap ℕ ListStart S) → len ≡ hash_map_len starts → OnTrue (eqb len 0) ((u : Unseen) (k : ℕ) → start_at u starts k ≡ 0)
 none_where_empty len starts is = at (eqb len 0) refl where
   nothing : {X : Type 0} (xs : List X) → length xs ≡ 0 → xs ≡ []
   nothing [] e = refl
@@ -88,7 +88,7 @@ le_le a b d p q = omega arith
 pub at_zero : (a b : ℕ) → a ≡ 0 → 0 < b → a < b
 at_zero a b e h = omega arith
 
-pub none_above_all : {S : Type 0} (seed : ℕ) (starts : HashMap ℕ Start S) (n : ℕ) (rows : List Row) → ((u : Unseen) (k : ℕ) → start_at u starts k ≡ 0) → AllByRecursion (λ r. 0 < r.number) rows → AllByRecursion (λ r. r.number ≡ n → IsOverAll seed starts r) rows
+pub none_above_all : {S : Type 0} (seed : ℕ) (starts : HashMap ℕ ListStart S) (n : ℕ) (rows : List Row) → ((u : Unseen) (k : ℕ) → start_at u starts k ≡ 0) → AllByRecursion (λ r. 0 < r.number) rows → AllByRecursion (λ r. r.number ≡ n → IsOverAll seed starts r) rows
 none_above_all seed starts n rows none pos = each (λ r. 0 < r.number) (λ r. r.number ≡ n → IsOverAll seed starts r) rows pos (λ r h e u k has. at_zero (start_at u starts k) r.number (none u k) h)
 
 -- ---- starts that go down, and rows that leave, come and change
@@ -108,7 +108,7 @@ module _ (seed : ℕ) where
   abbrev pub has_key : ℕ → Row → Bool
   has_key key r = contains (row_keys seed r) key
 
-  pub after_each : (key : ℕ) (rows : List Row) (next : Start) → AreAbove (has_key key) is_untaken next.taken rows → AreAbove (has_key key) is_public next.hidden rows → AreAbove (has_key key) is_free next.held rows → AreAbove (has_key key) (λ r. true) 0 rows
+  pub after_each : (key : ℕ) (rows : List Row) (next : ListStart) → AreAbove (has_key key) is_untaken next.taken rows → AreAbove (has_key key) is_public next.hidden rows → AreAbove (has_key key) is_free next.held rows → AreAbove (has_key key) (λ r. true) 0 rows
       → (u : Unseen) → AreAbove (has_key key) (is_open u) (number_at u next) rows
   after_each key rows next a b c d Nothing = d
   after_each key rows next a b c d Taken = a
@@ -116,16 +116,16 @@ module _ (seed : ℕ) where
   after_each key rows next a b c d Held = c
 
   module _ {S : Type 0} where
-    pub passed_still : (old new : HashMap ℕ Start S) (rows : List Row) → AreLower old new → ArePassed seed old rows → ArePassed seed new rows
+    pub passed_still : (old new : HashMap ℕ ListStart S) (rows : List Row) → AreLower old new → ArePassed seed old rows → ArePassed seed new rows
     passed_still old new rows down h u =
         each (λ r. is_open u r ≡ true → IsAbove seed (start_at u old) r) (λ r. is_open u r ≡ true → IsAbove seed (start_at u new) r) rows (h u) (λ r g o. above_still (start_at u old) (start_at u new) r (down u) (g o))
 
-    pub over_more : (old new : HashMap ℕ Start S) (rows : List Row) (i : ℕ) (r : Row) → i < length rows → r ≡ get_or rows i r → AreLower old new → IsOverAll seed new r → AllByRecursion (IsOverAll seed old) (take i rows) → AllByRecursion (IsOverAll seed new) (take (i + 1) rows)
+    pub over_more : (old new : HashMap ℕ ListStart S) (rows : List Row) (i : ℕ) (r : Row) → i < length rows → r ≡ get_or rows i r → AreLower old new → IsOverAll seed new r → AllByRecursion (IsOverAll seed old) (take i rows) → AllByRecursion (IsOverAll seed new) (take (i + 1) rows)
     over_more old new rows i r lt is down this h =
         let e : take (i + 1) rows ≡ take i rows ++ r ∷ [] = take_more rows i r lt ∙ ap (λ w. take i rows ++ w ∷ []) (sym is) in
         subst (AllByRecursion (IsOverAll seed new)) (sym e) (All-append (IsOverAll seed new) (take i rows) (r ∷ []) (each (IsOverAll seed old) (IsOverAll seed new) (take i rows) h (λ x g u. above_still (start_at u old) (start_at u new) x (down u) (g u))) (this, tt))
 
-    module _ (starts : HashMap ℕ Start S) where
+    module _ (starts : HashMap ℕ ListStart S) where
       pub passed_added : (rows things : List Row) → ArePassed seed starts rows → AllByRecursion (IsOverAll seed starts) things → ArePassed seed starts (rows ++ things)
       passed_added rows things h k u =
           All-append (λ r. is_open u r ≡ true → IsAbove seed (start_at u starts) r) rows things (h u) (each (IsOverAll seed starts) (λ r. is_open u r ≡ true → IsAbove seed (start_at u starts) r) things k (λ r g o. g u))
@@ -158,13 +158,13 @@ module _ (seed : ℕ) where
 
     -- ---- a row stands above the starts of all its keys
 
-    pub keys_more : (old new : HashMap ℕ Start S) (n i : ℕ) (keys : List ℕ) → AreLower old new → i < length keys → ((u : Unseen) → start_at u new (get_or keys i 0) < n) → AllByRecursion (λ k. (u : Unseen) → start_at u old k < n) (take i keys) → AllByRecursion (λ k. (u : Unseen) → start_at u new k < n) (take (i + 1) keys)
+    pub keys_more : (old new : HashMap ℕ ListStart S) (n i : ℕ) (keys : List ℕ) → AreLower old new → i < length keys → ((u : Unseen) → start_at u new (get_or keys i 0) < n) → AllByRecursion (λ k. (u : Unseen) → start_at u old k < n) (take i keys) → AllByRecursion (λ k. (u : Unseen) → start_at u new k < n) (take (i + 1) keys)
     keys_more old new n i keys down lt this h =
         rw (take_more keys i 0 lt) (All-append (λ k. (u : Unseen) → start_at u new k < n) (take i keys) (get_or keys i 0 ∷ []) (each (λ k. (u : Unseen) → start_at u old k < n) (λ k. (u : Unseen) → start_at u new k < n) (take i keys) h (λ k g u. less (start_at u new k) (start_at u old k) (down u k) (g u))) (this, tt)) where
           less : (a b : ℕ) → a ≤ b → b < n → a < n
           less a b p q = omega arith
 
-    pub keys_above : (starts : HashMap ℕ Start S) (n : ℕ) (keys : List ℕ) → AllByRecursion (λ k. (u : Unseen) → start_at u starts k < n) keys → (u : Unseen) (k : ℕ) → contains keys k ≡ true → start_at u starts k < n
+    pub keys_above : (starts : HashMap ℕ ListStart S) (n : ℕ) (keys : List ℕ) → AllByRecursion (λ k. (u : Unseen) → start_at u starts k < n) keys → (u : Unseen) (k : ℕ) → contains keys k ≡ true → start_at u starts k < n
     keys_above starts n [] h u k has = absurd (cc)
     keys_above starts n (m ∷ keys) h u k has = elim (or_cases (eqb m k) (contains keys k) has) [
       | inl e ↦ subst (λ w. start_at u starts w < n) (eqb_eq m k e) (h.0 u)
@@ -173,20 +173,20 @@ module _ (seed : ℕ) where
 
     -- ---- a key starts further on
 
-    module _ (old new : HashMap ℕ Start S) (key : ℕ) (rows : List Row) where
+    module _ (old new : HashMap ℕ ListStart S) (key : ℕ) (rows : List Row) where
       raised_at : (next : ℕ) (u : Unseen) (r : Row) → ((k : ℕ) → start_at u new k ≡ cond (eqb k key) next (start_at u old k)) → (has_key key r ≡ true → next < r.number) → IsAbove seed (start_at u old) r → IsAbove seed (start_at u new) r
       raised_at next u r is p q k has = at (eqb k key) refl where
         at : (b : Bool) → eqb k key ≡ b → start_at u new k < r.number
         at true e = subst (λ w. w < r.number) (sym (is k ∙ ap (λ b. cond b next (start_at u old k)) e)) (p (ap (contains (row_keys seed r)) (sym (eqb_eq k key e)) ∙ has))
         at false e = subst (λ w. w < r.number) (sym (is k ∙ ap (λ b. cond b next (start_at u old k)) e)) (q k has)
 
-      pub passed_raised : (next : Start) → ((u : Unseen) (k : ℕ) → start_at u new k ≡ cond (eqb k key) (number_at u next) (start_at u old k)) → ((u : Unseen) → AreAbove (has_key key) (is_open u) (number_at u next) rows) → ArePassed seed old rows → ArePassed seed new rows
+      pub passed_raised : (next : ListStart) → ((u : Unseen) (k : ℕ) → start_at u new k ≡ cond (eqb k key) (number_at u next) (start_at u old k)) → ((u : Unseen) → AreAbove (has_key key) (is_open u) (number_at u next) rows) → ArePassed seed old rows → ArePassed seed new rows
       passed_raised next is further h u =
           both (λ r. has_key key r ≡ true → is_open u r ≡ true → number_at u next < r.number) (λ r. is_open u r ≡ true → IsAbove seed (start_at u old) r) (λ r. is_open u r ≡ true → IsAbove seed (start_at u new) r) rows (further u) (h u)
           (λ r p q o. raised_at (number_at u next) u r (is u) (λ has. p has o) (q o))
 
       -- or stays where memory was refused
-      pub raised_or_not : {T E : Type 0} (next : Start) (set : Result T E) → OnOk set ((u : Unseen) (k : ℕ) → start_at u new k ≡ cond (eqb k key) (number_at u next) (start_at u old k)) → OnErr set ((u : Unseen) (k : ℕ) → start_at u new k ≡ start_at u old k)
+      pub raised_or_not : {T E : Type 0} (next : ListStart) (set : Result T E) → OnOk set ((u : Unseen) (k : ℕ) → start_at u new k ≡ cond (eqb k key) (number_at u next) (start_at u old k)) → OnErr set ((u : Unseen) (k : ℕ) → start_at u new k ≡ start_at u old k)
           → ((u : Unseen) → AreAbove (has_key key) (is_open u) (number_at u next) rows) → ArePassed seed old rows → ArePassed seed new rows
       raised_or_not next (Ok v) is same further h = passed_raised next is further h
       raised_or_not next (Err e) is same further h = passed_still old new rows (λ u k. at_most (start_at u new k) (start_at u old k) (same u k)) h where
@@ -194,7 +194,7 @@ module _ (seed : ℕ) where
         at_most a b e = omega arith
 
     -- the open ones that have a key stand above its start
-    pub key_above : (starts : HashMap ℕ Start S) (key start : ℕ) (u : Unseen) (kind : Row → Bool) (rows : List Row) → start ≡ start_at u starts key → ((r : Row) → kind r ≡ true → has_key key r ≡ true) → ArePassed seed starts rows → AreAbove kind (is_open u) start rows
+    pub key_above : (starts : HashMap ℕ ListStart S) (key start : ℕ) (u : Unseen) (kind : Row → Bool) (rows : List Row) → start ≡ start_at u starts key → ((r : Row) → kind r ≡ true → has_key key r ≡ true) → ArePassed seed starts rows → AreAbove kind (is_open u) start rows
     key_above starts key start u kind rows is have h =
         each (λ r. is_open u r ≡ true → IsAbove seed (start_at u starts) r) (λ r. kind r ≡ true → is_open u r ≡ true → start < r.number) rows (h u) (λ r p k o. subst (λ w. w < r.number) (sym is) (p o key (have r k)))
 

@@ -8,7 +8,7 @@ use Rattle.jsp_table.specs.Numbers.{contains}
 use Rattle.jsp_table.specs.Finding.{AreNamed}
 use Rattle.jsp_index.specs.declared.starts.Unseen.{Unseen}
 use Rattle.jsp_index.specs.declared.starts.Unseen.TheVariants.{Nothing, Taken, Hidden, Held}
-use Rattle.jsp_index.specs.declared.starts.Start.{Start}
+use Rattle.jsp_index.specs.declared.starts.ListStart.{ListStart}
 use Rattle.jsp_index.specs.Starts.{start_at}
 use Rattle.jsp_index.specs.Finding.{number}
 use Rattle.jsp_index.specs.Keys.{row_keys}
@@ -58,15 +58,15 @@ IsAbove seed start row = (k : ℕ) → contains (row_keys seed row) k ≡ true �
 
 module _ {S : Type 0} where
   -- the had rows stand above where each of their keys starts
-  abbrev pub ArePassed : ℕ → HashMap ℕ Start S → List Row → Type 0
+  abbrev pub ArePassed : ℕ → HashMap ℕ ListStart S → List Row → Type 0
   ArePassed seed starts rows = (u : Unseen) → AllByRecursion (λ row. is_open u row ≡ true → IsAbove seed (start_at u starts) row) rows
 
   -- no key starts further on
-  abbrev pub AreLower : HashMap ℕ Start S → HashMap ℕ Start S → Type 0
+  abbrev pub AreLower : HashMap ℕ ListStart S → HashMap ℕ ListStart S → Type 0
   AreLower old new = (u : Unseen) (k : ℕ) → start_at u new k ≤ start_at u old k
 
   -- the row stands above where each of its keys starts, whatever can't be had
-  abbrev pub IsOverAll : ℕ → HashMap ℕ Start S → Row → Type 0
+  abbrev pub IsOverAll : ℕ → HashMap ℕ ListStart S → Row → Type 0
   IsOverAll seed starts row = (u : Unseen) → IsAbove seed (start_at u starts) row
 
 -- the numbers are those of all rows of a kind, of which the open ones stand above the start

@@ -5,17 +5,17 @@ ghost use Rattle.jsp_table.specs.Finding.{AreNamed};
 ghost use Rattle.jsp_index.specs.Finding.{number as number_of, is_next, IsLeast};
 ghost use Rattle.jsp_index.specs.Own.{AreAmong, AreWithin};
 
-use crate::asking::is_within;
-use crate::by_number::Rows;
+use crate::by_number::RowsByNumber;
 use crate::own::passes;
+use crate::row_tests::is_within;
 use jsp_model::Row;
 use jsp_table::{Numbers, Test};
 
-/// The first row above a number that both lists name and that passes the test, which only rows pass that
-/// the second names, and none above the last number. Each list is gone through from where the other goes
-/// on.
+/// The first row above a number that both lists name and that passes the test, which only rows pass
+/// that the second names, and none above the last number. Each list is gone through from where the
+/// other goes on.
 pub(crate) fn first_in_both<'a, P: Test<Row>>(
-    rows: &'a Rows,
+    rows: &'a RowsByNumber,
     numbers: &Numbers,
     own: &Numbers,
     after: u64,

@@ -10,13 +10,13 @@ use jsp_model::{Rank, Row};
 use jsp_table::Numbering;
 use jsp_types::{Text, Value};
 
-/// Rows go by their numbers. Each is named under its space, its class there, and each value of a field
-/// that isn't null.
+/// Rows go by their numbers. Each is named under its space, its class there, and each value of a
+/// field that isn't null.
 #[derive(Drop)]
 pub(crate) struct ByNumber {}
 
 /// Rows, found by number, by key and by end.
-pub(crate) type Rows = Keyed<Row, ByNumber>;
+pub(crate) type RowsByNumber = Keyed<Row, ByNumber>;
 
 impl Numbering<Row> for ByNumber {
     ghost number_of = { λ r. r.number };

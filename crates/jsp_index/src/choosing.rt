@@ -7,14 +7,14 @@ ghost use Rattle.jsp_keyed.specs.Finding.{HaveKey};
 ghost use Rattle.jsp_index.specs.Keys.{row_keys};
 ghost use Rattle.jsp_index.specs.Finding.{is_like};
 
-use crate::by_number::Rows;
+use crate::by_number::RowsByNumber;
 use crate::seeking::OfField;
 use jsp_types::{Entry, Text, Value};
 
-/// The field of a template that the fewest rows have the value of, as the lists say, if a field isn't
-/// null. All rows that the template matches have its key.
+/// The field of a template that the fewest rows have the value of, as the lists say, if a field
+/// isn't null. All rows that the template matches have its key.
 pub(crate) fn rarest_field<'a>(
-    rows: &Rows,
+    rows: &RowsByNumber,
     like: &'a Entry,
     space: u64,
 ) -> Option<&'a (Text, Value)>
@@ -31,7 +31,7 @@ pub(crate) fn rarest_field<'a>(
 
 /// The field of two that has the shorter list.
 fn rarer<'a>(
-    rows: &Rows,
+    rows: &RowsByNumber,
     space: u64,
     other: Option<&'a (Text, Value)>,
     field: &'a (Text, Value),
@@ -45,6 +45,6 @@ fn rarer<'a>(
 }
 
 /// How many numbers the list of a field's value has.
-fn count_with(rows: &Rows, space: u64, field: &(Text, Value)) -> usize {
+fn count_with(rows: &RowsByNumber, space: u64, field: &(Text, Value)) -> usize {
     rows.numbers_under(&OfField { space, field }).len()
 }

@@ -6,17 +6,17 @@ ghost use Rattle.jsp_sight.specs.Deciding.{fate};
 ghost use Rattle.jsp_index.specs.Ending.{EndsAll};
 ghost use Rattle.jsp_index.specs.Holding.{AreHeld};
 
-use crate::changing::{Abort, Commit, Local};
 use crate::holding::{Holders, Holding, first_listed, is_longer, take_list, unlist};
 use crate::keyed::KeyedRows;
 use crate::revising::{revise, revise_space};
+use crate::row_changes::{Abort, Commit, Local};
 use crate::{HintedRows, NoMemory};
 use jsp_sight::Decision;
 use std::alloc::Global;
 
 impl HintedRows {
-    /// The decisions that end a transaction in each space where it wrote, took or read rows. A space may
-    /// be named where none of these rows is left.
+    /// The decisions that end a transaction in each space where it wrote, took or read rows. A
+    /// space may be named where none of these rows is left.
     pub fn decisions(&self, alloc: Global, x: u64, commits: bool) -> Result<Vec<Decision>, NoMemory>
         ensures { IfOk result (λ v. EndsAll x commits v.items self.now) }
     {
@@ -26,8 +26,8 @@ impl HintedRows {
         }
     }
 
-    /// Applies a decision: the rows of its space that the transaction wrote, took or read are let go, or
-    /// go. Takes no memory.
+    /// Applies a decision: the rows of its space that the transaction wrote, took or read are let
+    /// go, or go. Takes no memory.
     pub fn apply(&mut self, decision: &Decision)
         ensures { self.new ≡ filter_map (fate decision.now) self.old }
     {

@@ -11,9 +11,9 @@ ghost use Rattle.jsp_index.specs.Passed.{may_have};
 ghost use Rattle.jsp_index.specs.Finding.{is_asked};
 ghost use Rattle.jsp_sight.specs.Rows.{offered, offered_among, held, shows, row_end, entries_among, is_of, is_held};
 
-use crate::asking::{ChangedBy, InConflict, Offered, OneOf, PublishedBy, Shown};
 use crate::holding::{count_listed, listed, numbers_in};
 use crate::listing::{entries_named, named_by, rows_held};
+use crate::row_tests::{ChangedBy, InConflict, Offered, OneOf, PublishedBy, Shown};
 use crate::searching::Behind;
 use crate::starts::Unseen;
 use crate::walking::{Sought, entries_found, numbers_found, walk};
@@ -201,7 +201,8 @@ impl HintedRows {
         Ok(entries)
     }
 
-    /// The places of the rows in their order, some of which are empty. Only for what goes over all rows.
+    /// The places of the rows in their order, some of which are empty. Only for what goes over all
+    /// rows.
     pub fn places(&self) -> &[Option<Row>]
         ensures rows { living result.now ≡ self.now }
         ensures numbered { AreNumbered self.now }

@@ -1,8 +1,8 @@
 //! The rows of all spaces, found by hints. Contracts see them as a list, in rising order of their
 //! numbers.
 //!
-//! The fields are private. What there is to do with rows is a call: to append, to leave some out, to
-//! change some in place are here. Only appending, reading and taking takes memory.
+//! The fields are private. What there is to do with rows is a call: to append, to leave some out,
+//! to change some in place are here. Only appending, reading and taking takes memory.
 ghost use Rattle.std.specs.Prelude.{◌≡◌, ◌==◌, ◌&&◌, ◌++◌, ◌∷◌, [], not, map, filter, OnOk, OnErr};
 ghost use Rattle.std.specs.List.{list_any};
 ghost use Rattle.std.specs.Bool.{OnTrue};
@@ -12,11 +12,11 @@ ghost use Rattle.jsp_sight.specs.Rows.{row_ending, with_reader, taken_row, is_he
 ghost use Rattle.jsp_index.specs.Numbered.{AreNumbered};
 
 use crate::NoMemory;
-use crate::asking::HeldBy;
-use crate::changing::{Abort, Commit, Release};
 use crate::holding::{Holders, hold_all, hold_number, hold_numbers, listed, take_list};
 use crate::keyed::KeyedRows;
 use crate::revising::{remove_all, revise_all, revise_holdings, take_all};
+use crate::row_changes::{Abort, Commit, Release};
+use crate::row_tests::HeldBy;
 use jsp_model::{Row, Vote};
 use std::alloc::Global;
 use std::collections::HashMap;
@@ -66,7 +66,8 @@ impl HintedRows {
         self.rows.keyed().may_append(rows)
     }
 
-    /// Adds rows at the end, whole or not at all. Where memory is refused they stay with the caller.
+    /// Adds rows at the end, whole or not at all. Where memory is refused they stay with the
+    /// caller.
     pub fn append(&mut self, rows: &mut Vec<Row>) -> Result<(), NoMemory>
         requires { AreNumbered (self.old ++ rows.old.items) }
         ensures ok { OnOk result (self.new ≡ self.old ++ rows.old.items) }
@@ -170,8 +171,8 @@ impl HintedRows {
 
     // ---- change in place
 
-    /// Once a space has voted that nothing is changed, the transaction's read marks there go. What it
-    /// holds elsewhere isn't looked at. Takes no memory.
+    /// Once a space has voted that nothing is changed, the transaction's read marks there go. What
+    /// it holds elsewhere isn't looked at. Takes no memory.
     pub fn release(&mut self, vote: Vote, x: u64, space: u64)
         ensures { self.new ≡ released vote x space self.old }
     {

@@ -11,11 +11,11 @@ ghost use Rattle.jsp_index.specs.Keys.{row_keys};
 ghost use Rattle.jsp_keyed.specs.Finding.{HaveKey};
 
 use crate::NoMemory;
-use crate::asking::InSpace;
-use crate::by_number::Rows;
-use crate::changing::{Reading, Taking};
+use crate::by_number::RowsByNumber;
 use crate::counting::{count_all, make_room_for, uncount_all};
 use crate::passing::{drop_starts, pass, pass_all, put_all_above, put_number_above};
+use crate::row_changes::{Reading, Taking};
+use crate::row_tests::InSpace;
 use crate::seeing::{Seen, forget_all, forget_with, see_all};
 use crate::shapes::Shapes;
 use crate::starts::{Starts, Unseen, start_of};
@@ -26,11 +26,11 @@ use std::alloc::Global;
 use std::collections::HashMap;
 use std::marker::Model;
 
-/// Rows, found by number, by what their entries hold, and by end. Contracts see the list of them, in
-/// rising order of their numbers.
+/// Rows, found by number, by what their entries hold, and by end. Contracts see the list of them,
+/// in rising order of their numbers.
 #[derive(Drop)]
 pub(crate) struct KeyedRows {
-    pub(crate) rows: Rows,
+    pub(crate) rows: RowsByNumber,
     pub(crate) alloc: Global,
     /// The classes that were seen in each space.
     pub(crate) seen: Seen,
@@ -80,7 +80,7 @@ impl KeyedRows {
     }
 
     /// The rows, found by number, by key and by end.
-    pub(crate) fn keyed(&self) -> &Rows
+    pub(crate) fn keyed(&self) -> &RowsByNumber
         ensures { result.now ≡ self.now }
     {
         &self.rows
@@ -97,7 +97,8 @@ impl KeyedRows {
         }
     }
 
-    /// Adds rows at the end, whole or not at all. Where memory is refused they stay with the caller.
+    /// Adds rows at the end, whole or not at all. Where memory is refused they stay with the
+    /// caller.
     pub(crate) fn append(&mut self, rows: &mut Vec<Row>) -> Result<(), NoMemory>
         requires { AreNumbered (self.old ++ rows.old.items) }
         ensures ok { OnOk result (self.new ≡ self.old ++ rows.old.items) }
@@ -175,7 +176,8 @@ impl KeyedRows {
         self.starts.clear();
     }
 
-    /// Changes the row of this number, which keeps its number, space, entry and end. Takes no memory.
+    /// Changes the row of this number, which keeps its number, space, entry and end. Takes no
+    /// memory.
     pub(crate) fn change<C: Change<Row>>(&mut self, number: u64, change: &C)
         requires { (r : OfRow) → HasSameKeys r (C.changed change.now r) }
         ensures { self.new ≡ map (λ r. if r.number == number then C.changed change.now r else r) self.old }
@@ -184,8 +186,8 @@ impl KeyedRows {
         self.rows.change(number, change);
     }
 
-    /// The transaction takes the row of this number. That it is passed over from here on may take memory,
-    /// and is left where memory is refused.
+    /// The transaction takes the row of this number. That it is passed over from here on may take
+    /// memory, and is left where memory is refused.
     pub(crate) fn take(&mut self, number: u64, x: u64)
         ensures { self.new ≡ map (λ (r : OfRow). if r.number == number then record r { taker = Some x } else r) self.old }
     {
@@ -193,8 +195,8 @@ impl KeyedRows {
         pass(&mut self.starts, &self.rows, self.seed, number);
     }
 
-    /// The transaction reads the row of this number, whole or not at all. That it is passed over from here
-    /// on may take memory, and is left where memory is refused.
+    /// The transaction reads the row of this number, whole or not at all. That it is passed over
+    /// from here on may take memory, and is left where memory is refused.
     pub(crate) fn read(&mut self, number: u64, x: u64) -> Result<(), NoMemory>
         ensures ok { OnOk result (self.new ≡ map (λ r. if r.number == number then with_reader x r else r) self.old) }
         ensures err { OnErr result (self.new ≡ self.old) }
@@ -220,8 +222,8 @@ impl KeyedRows {
     }
 }
 
-/// The number of the first of these rows, and how many there are, if a transaction wrote it. What is
-/// written together is written by one.
+/// The number of the first of these rows, and how many there are, if a transaction wrote it. What
+/// is written together is written by one.
 fn hidden_among(rows: &[Row]) -> (u64, usize) {
     match rows {
         [first, ..] if first.writer.is_some() => (first.number, rows.len()),

@@ -18,9 +18,9 @@ pub(crate) const FEW: usize = 32;
 const PER_LEARNED: usize = 4;
 
 impl HintedRows {
-    /// Rows of the space were searched for by a template of these fields, and the last that was found
-    /// has this number. Where many had to be looked at, some of all are learned, the more the more these
-    /// were, so that such ones are found sooner. Where memory is refused they aren't.
+    /// Rows of the space were searched for by a template of these fields, and the last that was
+    /// found has this number. Where many had to be looked at, some of all are learned, the more the
+    /// more these were, so that such ones are found sooner. Where memory is refused they aren't.
     pub fn learn(&mut self, space: u64, fields: &[(Text, Value)], last: Option<u64>)
         ensures { self.new ≡ self.old }
     {
@@ -50,7 +50,8 @@ impl KeyedRows {
         }
     }
 
-    /// How many rows a search for that number looks at at least, since it takes the list of one value.
+    /// How many rows a search for that number looks at at least, since it takes the list of one
+    /// value.
     fn count_looked_at(&self, space: u64, fields: &[(Text, Value)], number: Option<u64>) -> usize {
         fields
             .iter()
@@ -66,8 +67,9 @@ impl KeyedRows {
         count_before(listed.numbers, listed.start, number)
     }
 
-    /// Whether the list of each value is long, and what was found isn't near where a search through one
-    /// begins. How long they are is looked at first, since most templates have a value that is rare.
+    /// Whether the list of each value is long, and what was found isn't near where a search through
+    /// one begins. How long they are is looked at first, since most templates have a value that is
+    /// rare.
     fn is_to_learn(&self, space: u64, fields: &[(Text, Value)], last: Option<u64>) -> bool {
         fields
             .iter()
@@ -88,8 +90,8 @@ impl KeyedRows {
     }
 }
 
-/// How many numbers of a list stand behind a start and before this one, or in the list where there is
-/// none.
+/// How many numbers of a list stand behind a start and before this one, or in the list where there
+/// is none.
 fn count_before(numbers: &Numbers, start: u64, number: Option<u64>) -> usize {
     let Some(number) = number else {
         return numbers.len();

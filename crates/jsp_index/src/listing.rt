@@ -8,7 +8,7 @@ ghost use Rattle.jsp_index.specs.Finding.{is_next};
 ghost use Rattle.jsp_index.specs.Holding.{listed_in, is_in};
 
 use crate::NoMemory;
-use crate::by_number::{Rows, copy_of};
+use crate::by_number::{RowsByNumber, copy_of};
 use crate::holding::{Holding, numbers_of};
 use crate::walking::add_entry;
 use jsp_model::Row;
@@ -30,7 +30,7 @@ pub(crate) fn named_by(alloc: Global, numbers: &[u64]) -> Result<Numbers, NoMemo
 /// Copies of the rows that pass, which are all listed, in their order.
 pub(crate) fn rows_held<P: Test<Row>>(
     alloc: Global,
-    rows: &Rows,
+    rows: &RowsByNumber,
     holdings: &[Holding],
     test: &P,
 ) -> Result<Vec<Row>, NoMemory>
@@ -48,7 +48,7 @@ pub(crate) fn rows_held<P: Test<Row>>(
 /// Copies of the rows that are named and pass, in their order.
 fn rows_named<P: Test<Row>>(
     alloc: Global,
-    rows: &Rows,
+    rows: &RowsByNumber,
     numbers: &Numbers,
     test: &P,
 ) -> Result<Vec<Row>, NoMemory>
@@ -69,7 +69,7 @@ fn rows_named<P: Test<Row>>(
 /// The entries of the rows that are named and pass, in their order.
 pub(crate) fn entries_named<P: Test<Row>>(
     alloc: Global,
-    rows: &Rows,
+    rows: &RowsByNumber,
     numbers: &Numbers,
     test: &P,
 ) -> Result<Items<Entry>, NoMemory>

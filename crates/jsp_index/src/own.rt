@@ -1,9 +1,9 @@
 //! The first row that who searches may have, also where it holds rows itself.
 //!
-//! Who holds nothing may have only rows that nobody holds, and those at the head of a list that somebody
-//! holds aren't passed one by one. Who holds a few may have these too: they are looked at first, and what
-//! nobody holds only up to the one that is found. Who holds many has both
-//! looked for by stretches (`stretches.rt`).
+//! Who holds nothing may have only rows that nobody holds, and those at the head of a list that
+//! somebody holds aren't passed one by one. Who holds a few may have these too: they are looked at
+//! first, and what nobody holds only up to the one that is found. Who holds many has both looked
+//! for by stretches (`stretches.rt`).
 ghost use Rattle.std.specs.Prelude.{◌≡◌, ◌==◌, ◌<◌, ◌≤◌, true, false, find, option_copied, option_map, Bool, Option, if◌then◌else◌, IfNone, IfSome};
 ghost use Rattle.std.specs.Option.{option_map_or};
 ghost use Rattle.std.specs.List.{AllByRecursion};
@@ -16,9 +16,9 @@ ghost use Rattle.jsp_index.specs.Own.{own_numbers, is_own, IsKept};
 ghost use Rattle.jsp_index.specs.Passed.{may_have, is_had, AreOpen, AreOpenOr};
 
 use crate::HintedRows;
-use crate::asking::{InSpace, Open};
-use crate::by_number::{ByNumber, Rows};
+use crate::by_number::{ByNumber, RowsByNumber};
 use crate::holding::listed;
+use crate::row_tests::{InSpace, Open};
 use crate::searching::Behind;
 use crate::starts::Unseen;
 use crate::walking::Sought;
@@ -41,8 +41,8 @@ pub(crate) struct Scope<'a> {
 }
 
 impl HintedRows {
-    /// The first row above a number that passes the test, which only rows pass that are sought. Takes no
-    /// memory.
+    /// The first row above a number that passes the test, which only rows pass that are sought.
+    /// Takes no memory.
     pub(crate) fn first_sought<P: Test<Row>>(
         &self,
         sought: &Sought,
@@ -59,7 +59,8 @@ impl HintedRows {
         self.first_beside(sought, &scope, own, after, test)
     }
 
-    /// The first of the transaction's own rows above a number that passes the test, where they are few.
+    /// The first of the transaction's own rows above a number that passes the test, where they are
+    /// few.
     pub(crate) fn first_own<P: Test<Row>>(
         &self,
         sought: &Sought,
@@ -76,7 +77,8 @@ impl HintedRows {
         }
     }
 
-    /// The same, where one is kept: it is looked for again only once the one kept isn't above the number.
+    /// The same, where one is kept: it is looked for again only once the one kept isn't above the
+    /// number.
     pub(crate) fn next_own<'a, P: Test<Row>>(
         &'a self,
         sought: &Sought,
@@ -98,8 +100,8 @@ impl HintedRows {
         self.first_own(sought, scope, after, test)
     }
 
-    /// The first row above a number that passes the test, which only rows pass that are sought, beside the
-    /// first of the transaction's own. No row above that one is tested.
+    /// The first row above a number that passes the test, which only rows pass that are sought,
+    /// beside the first of the transaction's own. No row above that one is tested.
     pub(crate) fn first_beside<'a, P: Test<Row>>(
         &'a self,
         sought: &Sought,
@@ -200,10 +202,10 @@ pub(crate) fn number_of(row: Option<&Row>) -> Option<u64>
     }
 }
 
-/// The first row above a number that is one of these and passes the test, which only rows of the space
-/// pass.
+/// The first row above a number that is one of these and passes the test, which only rows of the
+/// space pass.
 fn first_of_own<'a, P: Test<Row>>(
-    rows: &'a Rows,
+    rows: &'a RowsByNumber,
     space: u64,
     own: &Numbers,
     after: u64,
@@ -235,9 +237,9 @@ pub(crate) fn passes<P: Test<Row>>(row: Option<&Row>, test: &P) -> bool
     }
 }
 
-/// Up to where no row of a space follows a number. Behind a row of another space, or none, the numbers
-/// of that space are passed together.
-pub(crate) fn passed_to(rows: &Rows, space: u64, number: u64, row: Option<&Row>) -> u64
+/// Up to where no row of a space follows a number. Behind a row of another space, or none, the
+/// numbers of that space are passed together.
+pub(crate) fn passed_to(rows: &RowsByNumber, space: u64, number: u64, row: Option<&Row>) -> u64
     ensures up { number ≤ result }
     ensures none { AllByRecursion (λ r. (r.space == space) ≡ true → number < r.number → result < r.number) rows.now }
 {

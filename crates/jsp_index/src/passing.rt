@@ -1,8 +1,8 @@
 //! Rows at the head of a list that transactions hold, which no search passes one by one.
 //!
 //! For a key that many rows have, `Starts` may hold the numbers up to which all of them are taken,
-//! hidden and held. A row that is let go, or comes anew, stands above the starts of its keys. Only for
-//! lists that are long there is one, so there are few of them.
+//! hidden and held. A row that is let go, or comes anew, stands above the starts of its keys. Only
+//! for lists that are long there is one, so there are few of them.
 ghost use Rattle.std.specs.Prelude.{◌≡◌, ◌<◌, Bool};
 ghost use Rattle.std.specs.List.{AllByRecursion};
 ghost use Rattle.jsp_model.specs.declared.state.Row.{Row as OfRow};
@@ -10,9 +10,9 @@ ghost use Rattle.jsp_table.specs.Finding.{AreNamed};
 ghost use Rattle.jsp_index.specs.Finding.{number as number_of};
 ghost use Rattle.jsp_index.specs.Passed.{AreAbove, AreLower, ArePassed, IsOverAll};
 
-use crate::asking::{Free, Public, Untaken};
-use crate::by_number::{ByNumber, Rows};
-use crate::starts::{Start, Starts, drop_start, has_none, lower_start, set_start, start_of};
+use crate::by_number::{ByNumber, RowsByNumber};
+use crate::row_tests::{Free, Public, Untaken};
+use crate::starts::{ListStart, Starts, drop_start, has_none, lower_start, set_start, start_of};
 use jsp_keyed::Keying;
 use jsp_model::Row;
 use jsp_table::{Numbers, Test};
@@ -46,7 +46,7 @@ pub(crate) fn put_all_above(starts: &mut Starts, seed: u64, rows: &[Row])
 }
 
 /// The row of a number stands above the starts of its keys from here on. Takes no memory.
-pub(crate) fn put_number_above(starts: &mut Starts, rows: &Rows, seed: u64, number: u64)
+pub(crate) fn put_number_above(starts: &mut Starts, rows: &RowsByNumber, seed: u64, number: u64)
     ensures down { AreLower starts.old starts.new }
     ensures above { AllByRecursion (λ row. row.number ≡ number → IsOverAll seed starts.new row) rows.now }
 {
@@ -62,7 +62,7 @@ pub(crate) fn put_number_above(starts: &mut Starts, rows: &Rows, seed: u64, numb
 }
 
 /// The keys of a row whose lists aren't long start at 0. Takes no memory.
-pub(crate) fn drop_starts(starts: &mut Starts, rows: &Rows, seed: u64, row: &Row)
+pub(crate) fn drop_starts(starts: &mut Starts, rows: &RowsByNumber, seed: u64, row: &Row)
     ensures { AreLower starts.old starts.new }
 {
     if has_none(starts) {
@@ -77,16 +77,22 @@ pub(crate) fn drop_starts(starts: &mut Starts, rows: &Rows, seed: u64, row: &Row
 }
 
 /// Whether a list has many numbers.
-fn is_long(rows: &Rows, seed: u64, key: u64) -> bool {
+fn is_long(rows: &RowsByNumber, seed: u64, key: u64) -> bool {
     match rows.numbers_at(seed, key) {
         None => false,
         Some(numbers) => numbers.len() >= LONG,
     }
 }
 
-/// A transaction holds the rows of so many numbers from one on: what starts before each starts behind
-/// it. Where memory for that is refused it stays as it was.
-pub(crate) fn pass_all(starts: &mut Starts, rows: &Rows, seed: u64, first: u64, count: usize)
+/// A transaction holds the rows of so many numbers from one on: what starts before each starts
+/// behind it. Where memory for that is refused it stays as it was.
+pub(crate) fn pass_all(
+    starts: &mut Starts,
+    rows: &RowsByNumber,
+    seed: u64,
+    first: u64,
+    count: usize,
+)
     requires { ArePassed seed starts.old rows.now }
     ensures { ArePassed seed starts.new rows.now }
 {
@@ -95,9 +101,9 @@ pub(crate) fn pass_all(starts: &mut Starts, rows: &Rows, seed: u64, first: u64, 
     }
 }
 
-/// A transaction holds the row of a number: what starts before it starts behind it. Where memory for
-/// that is refused it stays as it was.
-pub(crate) fn pass(starts: &mut Starts, rows: &Rows, seed: u64, number: u64)
+/// A transaction holds the row of a number: what starts before it starts behind it. Where memory
+/// for that is refused it stays as it was.
+pub(crate) fn pass(starts: &mut Starts, rows: &RowsByNumber, seed: u64, number: u64)
     requires { ArePassed seed starts.old rows.now }
     ensures { ArePassed seed starts.new rows.now }
 {
@@ -111,7 +117,7 @@ pub(crate) fn pass(starts: &mut Starts, rows: &Rows, seed: u64, number: u64)
 
 /// The key starts behind the rows at the head of its list that can't be had, and behind all numbers
 /// where none can, if the list is long.
-fn pass_under(starts: &mut Starts, rows: &Rows, seed: u64, key: u64)
+fn pass_under(starts: &mut Starts, rows: &RowsByNumber, seed: u64, key: u64)
     requires { ArePassed seed starts.old rows.now }
     ensures { ArePassed seed starts.new rows.now }
 {
@@ -130,7 +136,7 @@ fn pass_under(starts: &mut Starts, rows: &Rows, seed: u64, key: u64)
     let taken = further(rows, numbers, start.taken, &Untaken {});
     let hidden = further(rows, numbers, start.hidden.max(taken), &Public {});
     let held = further(rows, numbers, start.held.max(hidden), &Free {});
-    let next = Start {
+    let next = ListStart {
         taken,
         hidden,
         held,
@@ -142,7 +148,7 @@ fn pass_under(starts: &mut Starts, rows: &Rows, seed: u64, key: u64)
 
 /// Up to where none of a list is open: behind the start, where the first row there isn't open, and
 /// behind those that follow and aren't. Rows that come or are let go lower a start again.
-fn further<P: Test<Row>>(rows: &Rows, numbers: &Numbers, start: u64, had: &P) -> u64
+fn further<P: Test<Row>>(rows: &RowsByNumber, numbers: &Numbers, start: u64, had: &P) -> u64
     ensures { (kind : OfRow → Bool) → AreNamed number_of kind numbers.now rows.now → AreAbove kind (P.is_passed had.now) start rows.now → AreAbove kind (P.is_passed had.now) result rows.now }
 {
     if begins_open(rows, numbers, start, had) {
@@ -155,7 +161,7 @@ fn further<P: Test<Row>>(rows: &Rows, numbers: &Numbers, start: u64, had: &P) ->
 }
 
 /// Whether the first row of a list behind the start is open, or there is none.
-fn begins_open<P: Test<Row>>(rows: &Rows, numbers: &Numbers, start: u64, had: &P) -> bool {
+fn begins_open<P: Test<Row>>(rows: &RowsByNumber, numbers: &Numbers, start: u64, had: &P) -> bool {
     let Some(next) = numbers.next_above(start) else {
         return true;
     };

@@ -8,9 +8,9 @@ ghost use Rattle.jsp_table.specs.Numbers.{contains};
 ghost use Rattle.jsp_index.specs.Changing.{HasSameKeys, IsOnce, revised_by};
 ghost use Rattle.jsp_index.specs.Holding.{listed_in, is_in};
 
-use crate::changing::{Local, Revision};
 use crate::holding::Holding;
 use crate::keyed::KeyedRows;
+use crate::row_changes::{Local, Revision};
 use jsp_model::Row;
 use jsp_table::{Change, Numbers};
 
@@ -49,8 +49,8 @@ pub(crate) fn revise_all<R: Revision + Change<Row>>(
     }
 }
 
-/// Revises the rows that are listed, space by space, where a revision leaves all others as they are.
-/// So it revises all.
+/// Revises the rows that are listed, space by space, where a revision leaves all others as they
+/// are. So it revises all.
 pub(crate) fn revise_holdings<R: Revision + Change<Row>>(
     rows: &mut KeyedRows,
     holdings: &[Holding],

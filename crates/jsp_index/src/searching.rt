@@ -9,12 +9,12 @@ ghost use Rattle.jsp_index.specs.Numbered.{AreNumbered};
 ghost use Rattle.jsp_index.specs.Passed.{AreOpen, AreListed};
 ghost use Rattle.jsp_index.specs.Own.{AreAmong, AreWithin};
 
-use crate::asking::{InSpace, OrAbove};
 use crate::both::first_in_both;
-use crate::by_number::{ByNumber, Rows};
+use crate::by_number::{ByNumber, RowsByNumber};
 use crate::choosing::rarest_field;
 use crate::keyed::{KeyedRows, Listed};
 use crate::learning::{FEW, MANY};
+use crate::row_tests::{InSpace, OrAbove};
 use crate::seeing::seen_in;
 use crate::seeking::{OfClass, OfField};
 use crate::starts::Unseen;
@@ -24,8 +24,8 @@ use jsp_table::{Numbers, Test};
 use jsp_types::{Classes, Entry, Template, Text};
 
 /// Behind which rows a search begins: those up to a number, and those at the head of a list that it
-/// can't have. And the last number that it looks at, if there is one, and the numbers among which it
-/// looks, if not among all.
+/// can't have. And the last number that it looks at, if there is one, and the numbers among which
+/// it looks, if not among all.
 #[derive(Drop)]
 pub(crate) struct Behind<'a> {
     pub(crate) number: u64,
@@ -37,7 +37,7 @@ pub(crate) struct Behind<'a> {
 /// The first row above a number that is named and passes the test, which none above the last number
 /// passes. Of those only the first is looked up, and none is tested.
 fn first_up_to<'a, P: Test<Row>>(
-    rows: &'a Rows,
+    rows: &'a RowsByNumber,
     numbers: &Numbers,
     after: u64,
     last: u64,
@@ -56,7 +56,8 @@ fn first_up_to<'a, P: Test<Row>>(
 }
 
 impl KeyedRows {
-    /// The first row of a list that passes the test, where only rows pass that the list's start leaves.
+    /// The first row of a list that passes the test, where only rows pass that the list's start
+    /// leaves.
     fn first_listed<P: Test<Row>>(&self, listed: &Listed, behind: &Behind, test: &P) -> Option<&Row>
         requires within { AreWithin behind.now.last (P.is_passed test.now) self.now }
         requires among { IfSome (option_copied behind.now.among) (λ own. AreAmong own (P.is_passed test.now) self.now) }
@@ -72,9 +73,9 @@ impl KeyedRows {
         }
     }
 
-    /// The first row of the space and of the class that passes the test and is like the template. The
-    /// list is looked up first, since to compare the class with the template's takes longer, and most
-    /// classes may have no rows in the space.
+    /// The first row of the space and of the class that passes the test and is like the template.
+    /// The list is looked up first, since to compare the class with the template's takes longer,
+    /// and most classes may have no rows in the space.
     fn first_of_class<P: Test<Row>>(
         &self,
         classes: &Classes,
@@ -126,9 +127,9 @@ impl KeyedRows {
         first
     }
 
-    /// The first row of the space that passes the test and is like the template: it is looked for in
-    /// the lists of the template's class and of those below it, or of those that were seen in the
-    /// space where that are fewer.
+    /// The first row of the space that passes the test and is like the template: it is looked for
+    /// in the lists of the template's class and of those below it, or of those that were seen in
+    /// the space where that are fewer.
     fn first_of_classes<P: Test<Row>>(
         &self,
         classes: &Classes,
@@ -154,8 +155,8 @@ impl KeyedRows {
         )
     }
 
-    /// The first row of the space that passes the test and is like the template: it is looked for among
-    /// those that have its values together, where that is learned and they are few.
+    /// The first row of the space that passes the test and is like the template: it is looked for
+    /// among those that have its values together, where that is learned and they are few.
     fn first_like<P: Test<Row>>(
         &self,
         classes: &Classes,
@@ -188,9 +189,9 @@ impl KeyedRows {
         }
     }
 
-    /// The first row of the space that passes the test and is like the template: it is looked for in
-    /// the shortest list of a field's value or, where no field has one or its class is rarer, in those
-    /// of classes.
+    /// The first row of the space that passes the test and is like the template: it is looked for
+    /// in the shortest list of a field's value or, where no field has one or its class is rarer, in
+    /// those of classes.
     fn first_by_field<P: Test<Row>>(
         &self,
         classes: &Classes,
@@ -223,8 +224,8 @@ impl KeyedRows {
             && self.rows.numbers_under(&OfClass { space, class }).len() < many
     }
 
-    /// The first row that passes the test, which only rows of the space pass that are like one of the
-    /// templates.
+    /// The first row that passes the test, which only rows of the space pass that are like one of
+    /// the templates.
     pub(crate) fn first_behind<P: Test<Row>>(
         &self,
         classes: &Classes,

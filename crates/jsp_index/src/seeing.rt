@@ -7,7 +7,7 @@ ghost use Rattle.jsp_index.specs.Seen.{seen_in as classes_in, IsAmong, IsSeen, A
 ghost use Rattle.jsp_table.specs.Numbers.{contains};
 
 use crate::NoMemory;
-use crate::by_number::Rows;
+use crate::by_number::RowsByNumber;
 use crate::seeking::OfClass;
 use jsp_model::Row;
 use jsp_table::Numbers;
@@ -74,9 +74,9 @@ fn has_class(seen: &[Text], class: &str) -> bool
     seen.iter().any(|c| c.is(class))
 }
 
-/// Where more than a few classes were seen in the space of a row that goes, and no other row there has
-/// its class, that is forgotten. Takes no memory.
-pub(crate) fn forget_with(seen: &mut Seen, rows: &Rows, row: &Row)
+/// Where more than a few classes were seen in the space of a row that goes, and no other row there
+/// has its class, that is forgotten. Takes no memory.
+pub(crate) fn forget_with(seen: &mut Seen, rows: &RowsByNumber, row: &Row)
     ensures { AreSeen seen.old rows.now → AreSeen seen.new (filter (λ r. not (r.number == row.now.number)) rows.now) }
 {
     let (space, class) = (row.space, row.entry.class.as_str());
@@ -86,7 +86,7 @@ pub(crate) fn forget_with(seen: &mut Seen, rows: &Rows, row: &Row)
 }
 
 /// Whether no other row of the space has the class.
-fn is_last_of_class(rows: &Rows, number: u64, space: u64, class: &str) -> bool
+fn is_last_of_class(rows: &RowsByNumber, number: u64, space: u64, class: &str) -> bool
     ensures { OnTrue result (AllByRecursion (λ (r : OfRow). (r.space == space && bytes_eq r.entry.class class.now) ≡ true → r.number ≡ number) rows.now) }
 {
     is_only(rows.numbers_under(&OfClass { space, class }), number)

@@ -2,7 +2,7 @@
 ghost use Rattle.std.specs.Prelude.{[], ◌∷◌};
 ghost use Rattle.jsp_keys.specs.Keys.{space_key, class_key, field_key};
 
-use crate::asking::InSpace;
+use crate::row_tests::InSpace;
 use jsp_keyed::{Key, Keys};
 use jsp_keys::{key_of_class, key_of_field, key_of_space};
 use jsp_types::{Text, Value};

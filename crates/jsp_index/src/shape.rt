@@ -11,8 +11,8 @@ ghost use Rattle.jsp_index.specs.Shapes.{key_of_values as values_key, some_value
 ghost use Rattle.jsp_table.specs.Hints.{names};
 
 use crate::NoMemory;
-use crate::asking::InSpace;
-use crate::by_number::Rows;
+use crate::by_number::RowsByNumber;
+use crate::row_tests::InSpace;
 use jsp_keys::{key_of_field, key_of_number, key_of_space};
 use jsp_model::Row;
 use jsp_table::{Hints, Numbers};
@@ -36,8 +36,8 @@ pub(crate) struct Shape {
 }
 
 impl Shape {
-    /// The shape of a template's values in a space, of which nothing is learned yet. Those that are null
-    /// aren't in it.
+    /// The shape of a template's values in a space, of which nothing is learned yet. Those that are
+    /// null aren't in it.
     pub(crate) fn new(
         alloc: Global,
         space: u64,
@@ -61,7 +61,8 @@ impl Shape {
         self.space == space && are_names_of(self.names.as_slice(), fields)
     }
 
-    /// The numbers of the space's rows that have the template's values here, if it has learned all rows.
+    /// The numbers of the space's rows that have the template's values here, if it has learned all
+    /// rows.
     pub(crate) fn listed<'a>(
         &'a self,
         none: &'a Numbers,
@@ -100,7 +101,8 @@ impl Shape {
         )
     }
 
-    /// Names a row, if it has learned where that is. Where memory is refused nothing is learned any more.
+    /// Names a row, if it has learned where that is. Where memory is refused nothing is learned any
+    /// more.
     pub(crate) fn add(&mut self, alloc: Global, seed: u64, row: &Row)
         ensures named { IsNamedBy seed row.now self.new }
         ensures keeps { (r : OfRow) → IsNamedBy seed r self.old → IsNamedBy seed r self.new }
@@ -139,7 +141,14 @@ impl Shape {
     }
 
     /// Learns so many of the rows more, in their order. Where memory is refused it begins anew.
-    pub(crate) fn learn(&mut self, alloc: Global, seed: u64, rows: &Rows, count: usize, call: u64)
+    pub(crate) fn learn(
+        &mut self,
+        alloc: Global,
+        seed: u64,
+        rows: &RowsByNumber,
+        count: usize,
+        call: u64,
+    )
         ensures { IsShaped seed self.old rows.now → IsShaped seed self.new rows.now }
     {
         self.asked = call;
@@ -152,7 +161,7 @@ impl Shape {
     }
 
     /// Learns the next row, or that there is none.
-    fn learn_next(&mut self, alloc: Global, seed: u64, rows: &Rows)
+    fn learn_next(&mut self, alloc: Global, seed: u64, rows: &RowsByNumber)
         ensures { IsShaped seed self.old rows.now → IsShaped seed self.new rows.now }
     {
         let in_space = InSpace { space: self.space };

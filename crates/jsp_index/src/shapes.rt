@@ -7,7 +7,7 @@ ghost use Rattle.jsp_table.specs.Finding.{AreNamed};
 ghost use Rattle.jsp_index.specs.Finding.{number as number_of, is_like};
 ghost use Rattle.jsp_index.specs.Shapes.{AreShaped, IsNamedByAll};
 
-use crate::by_number::Rows;
+use crate::by_number::RowsByNumber;
 use crate::shape::Shape;
 use jsp_model::Row;
 use jsp_table::Numbers;
@@ -67,8 +67,8 @@ impl Shapes {
         remove_row(seed, &mut self.list.items, row);
     }
 
-    /// The numbers of the space's rows that have the template's values in the fields of a shape that is
-    /// learned wholly: those of the shape of which there are the fewest.
+    /// The numbers of the space's rows that have the template's values in the fields of a shape
+    /// that is learned wholly: those of the shape of which there are the fewest.
     pub(crate) fn listed(&self, seed: u64, space: u64, like: &Entry) -> Option<&Numbers>
         ensures { IfSome (option_copied result) (λ numbers. (classes : List OfClass) (rows : List OfRow) → AreShaped seed self.now.list rows → AreNamed number_of (is_like classes space (Like like.now)) numbers rows) }
     {
@@ -83,14 +83,14 @@ impl Shapes {
             .any(|shape| shape.is_of(space, fields) && shape.is_whole)
     }
 
-    /// Learns so many rows more of the shape of a template's values, or begins it, in the stead of the
-    /// one that wasn't asked for the longest where there are as many as there may be. Where memory is
-    /// refused that isn't done.
+    /// Learns so many rows more of the shape of a template's values, or begins it, in the stead of
+    /// the one that wasn't asked for the longest where there are as many as there may be. Where
+    /// memory is refused that isn't done.
     pub(crate) fn learn(
         &mut self,
         alloc: Global,
         seed: u64,
-        rows: &Rows,
+        rows: &RowsByNumber,
         space: u64,
         fields: &[(Text, Value)],
         count: usize,
@@ -110,7 +110,7 @@ fn learn_at(
     alloc: Global,
     seed: u64,
     shapes: &mut Vec<Shape>,
-    rows: &Rows,
+    rows: &RowsByNumber,
     place: usize,
     count: usize,
     call: u64,

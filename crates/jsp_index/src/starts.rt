@@ -6,7 +6,7 @@ ghost use Rattle.jsp_index.specs.Starts.{number_at, start_at};
 ghost use Rattle.jsp_index.specs.Passed.{is_open};
 
 use crate::NoMemory;
-use crate::asking::{Free, Public, Untaken};
+use crate::row_tests::{Free, Public, Untaken};
 use jsp_model::Row;
 use jsp_table::Test;
 use std::collections::HashMap;
@@ -40,13 +40,13 @@ impl Unseen {
 
 /// The number up to which all rows that have a key are taken, hidden and held.
 #[derive(Clone, Copy, Debug, PartialEq, Eq)]
-pub(crate) struct Start {
+pub(crate) struct ListStart {
     pub(crate) taken: u64,
     pub(crate) hidden: u64,
     pub(crate) held: u64,
 }
 
-impl Start {
+impl ListStart {
     /// Whether all three are one number.
     pub(crate) fn are_equal(&self) -> bool {
         self.taken == self.hidden && self.hidden == self.held
@@ -66,7 +66,7 @@ impl Start {
 }
 
 /// The start of each key, 0 where there is none.
-pub(crate) type Starts = HashMap<u64, Start>;
+pub(crate) type Starts = HashMap<u64, ListStart>;
 
 /// Whether each key starts at 0.
 pub(crate) fn has_none(starts: &Starts) -> bool
@@ -76,12 +76,12 @@ pub(crate) fn has_none(starts: &Starts) -> bool
 }
 
 /// The start of a key.
-pub(crate) fn start_of(starts: &Starts, key: u64) -> Start
+pub(crate) fn start_of(starts: &Starts, key: u64) -> ListStart
     ensures { (u : OfUnseen) → number_at u result ≡ start_at u starts.now key }
 {
     match starts.get(&key) {
         Some(start) => *start,
-        None => Start {
+        None => ListStart {
             taken: 0,
             hidden: 0,
             held: 0,
@@ -90,7 +90,7 @@ pub(crate) fn start_of(starts: &Starts, key: u64) -> Start
 }
 
 /// A key starts there from here on. Where memory is refused all stays as it was.
-pub(crate) fn set_start(starts: &mut Starts, key: u64, start: Start) -> Result<(), NoMemory>
+pub(crate) fn set_start(starts: &mut Starts, key: u64, start: ListStart) -> Result<(), NoMemory>
     ensures ok { OnOk result ((u : OfUnseen) (k : ℕ) → start_at u starts.new k ≡ (if k == key then number_at u start else start_at u starts.old k)) }
     ensures err { OnErr result ((u : OfUnseen) (k : ℕ) → start_at u starts.new k ≡ start_at u starts.old k) }
 {
@@ -106,7 +106,7 @@ pub(crate) fn lower_start(starts: &mut Starts, key: u64, number: u64)
 {
     if let Some(start) = starts.get_mut(&key) {
         let last = number - 1;
-        *start = Start {
+        *start = ListStart {
             taken: start.taken.min(last),
             hidden: start.hidden.min(last),
             held: start.held.min(last),

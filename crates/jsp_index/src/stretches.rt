@@ -1,8 +1,8 @@
 //! The first row that a transaction may have that holds many.
 //!
-//! Its own and what nobody holds may both stand anywhere, and each may be many that don't pass. So both
-//! are looked for in one stretch of numbers after another, each longer than the one before: no more is
-//! looked at than some times what stands before the row that is found.
+//! Its own and what nobody holds may both stand anywhere, and each may be many that don't pass. So
+//! both are looked for in one stretch of numbers after another, each longer than the one before: no
+//! more is looked at than some times what stands before the row that is found.
 ghost use Rattle.std.specs.Prelude.{◌≡◌, ◌&&◌, true, find, option_copied, Some, if◌then◌else◌};
 ghost use Rattle.std.specs.Option.{option_map_or};
 ghost use Rattle.jsp_model.specs.declared.state.Row.{Row as OfRow};
@@ -14,9 +14,9 @@ ghost use Rattle.jsp_index.specs.Own.{is_within, AreWithin};
 ghost use Rattle.jsp_index.specs.Passed.{may_have, is_had, AreOpenOr};
 
 use crate::HintedRows;
-use crate::asking::{Among, Open, Within};
 use crate::by_number::ByNumber;
 use crate::own::{number_of, passed_to, unseen_by_strangers};
+use crate::row_tests::{Among, Open, Within};
 use crate::searching::Behind;
 use crate::starts::Unseen;
 use crate::walking::Sought;
@@ -31,8 +31,8 @@ const SHORTEST: u64 = 1_024;
 const GROWTH: u64 = 8;
 
 impl HintedRows {
-    /// The first row above a number that passes the test, which only rows pass that are sought. These are
-    /// the numbers of the rows that the transaction holds.
+    /// The first row above a number that passes the test, which only rows pass that are sought.
+    /// These are the numbers of the rows that the transaction holds.
     pub(crate) fn first_of_stretches<P: Test<Row>>(
         &self,
         sought: &Sought,
@@ -59,8 +59,8 @@ impl HintedRows {
         self.first_of_stretch(sought, own, from, None, test)
     }
 
-    /// The same, up to a last number, if there is one. The transaction's own are looked for first, and
-    /// what nobody holds only up to the one that is found.
+    /// The same, up to a last number, if there is one. The transaction's own are looked for first,
+    /// and what nobody holds only up to the one that is found.
     fn first_of_stretch<P: Test<Row>>(
         &self,
         sought: &Sought,
@@ -93,8 +93,8 @@ impl HintedRows {
         lesser::<Row, ByNumber>(open, mine)
     }
 
-    /// The first of these numbers' rows above a number that passes the test, which none above the last
-    /// number passes.
+    /// The first of these numbers' rows above a number that passes the test, which none above the
+    /// last number passes.
     fn first_of_many<P: Test<Row>>(
         &self,
         sought: &Sought,

@@ -12,8 +12,8 @@ use jsp_table::Test;
 use jsp_types::{Classes, Entry, Items, Template};
 use std::alloc::Global;
 
-/// What a search looks for: rows in a space that are like one of the templates, and that a transaction, or
-/// who is under none, may read, or take.
+/// What a search looks for: rows in a space that are like one of the templates, and that a
+/// transaction, or who is under none, may read, or take.
 #[derive(Drop)]
 pub(crate) struct Sought<'a> {
     pub(crate) classes: &'a Classes,

@@ -12,7 +12,7 @@ use Rattle.jsp_model.specs.Lookup.{is_open}
 use Rattle.jsp_model.specs.House.{Leaves, touched, Makes, KeepsRoom, accepts, acted, was_done, own_of, shuts}
 use Rattle.jsp_kept.specs.History.{History, IsKept, Beside, IsWhole, limit_of}
 use Rattle.jsp_kept.specs.Calls.{KeepsEra, KeepsAsks, KeepsOuts}
-use Rattle.jsp_kept.specs.Eras.{Performs}
+use Rattle.jsp_kept.specs.Eras.{GrowsAsAsked}
 use Rattle.jsp_kept.proofs.Growing.{performs_in_era}
 use Rattle.jsp_kept.proofs.LastSession.{last_by}
 use Rattle.jsp_kept.proofs.Weights.{shuts_append}
@@ -72,7 +72,7 @@ whole_begun h k b c steps s was era makes own grows is within asks_parts outs_pa
 
 pub performs_begun : (h k : History) (own steps : List Step) (s : ℕ) (r : Result Unit Stopped) → IsKept h → KeepsEra h k → Makes h.state k.state h.steps k.steps steps → own_of steps ≡ step.Open s ∷ [] → s ≡ h.state.last_session + 1
     → k.asked ≡ h.asked ++ 0 ∷ [] → k.asks_book ≡ h.asks_book → k.taken ≡ h.taken ++ 0 ∷ [] → k.outs_book ≡ h.outs_book
-    → own_of steps ≡ own → Leaves r k.state (touched h.state steps ++ h.debt) k.debt → Performs h k own r
+    → own_of steps ≡ own → Leaves r k.state (touched h.state steps ++ h.debt) k.debt → GrowsAsAsked h k own r
 performs_begun h k own steps s r was era makes opens is asked asks taken outs is_own left =
     performs_in_era h k own steps r era makes (subst (CountsUp h k) (sym opens) (grows_by_open h k s was is asked asks taken outs)) is_own left
 

@@ -8,7 +8,7 @@ use Rattle.jsp_model.specs.declared.house.Input.{Input}
 use Rattle.jsp_model.specs.declared.house.Settled.{Settled}
 use Rattle.jsp_model.specs.declared.house.Stopped.{Stopped}
 use Rattle.jsp_model.specs.declared.house.Why.{Why}
-use Rattle.jsp_model.specs.House.{Answers, AnswersOf, Covers, Leaves, acted, own_of, touched}
+use Rattle.jsp_model.specs.House.{AnswersTurn, AnswersOf, Covers, Leaves, acted, own_of, touched}
 use Rattle.jsp_beside.specs.Beside.{ActsBeside, GoesBeside, LeavesBeside}
 use Rattle.jsp_kept.specs.History.{History}
 use Rattle.jsp_kept.specs.Calls.{KeepsEra}
@@ -63,6 +63,6 @@ performs_behind h k l x r g state debt p = record {
 
 -- ---- a turn
 
-pub turn_answers : (old new : State) (left : List ℕ) (r : Result Settled Stopped) → AnswersOf old new left r → IfOk r (Answers old new)
+pub turn_answers : (old new : State) (left : List ℕ) (r : Result Settled Stopped) → AnswersOf old new left r → IfOk r (AnswersTurn old new)
 turn_answers old new left (Ok s) h = h
 turn_answers old new left (Err e) h = tt

@@ -18,7 +18,7 @@ use Rattle.jsp_quiet.proofs.Covering.{all_both, all_parts, covered, covers_more,
 use Rattle.jsp_kept.specs.Counts.{asks_of, outs_of}
 use Rattle.jsp_kept.specs.History.{History}
 use Rattle.jsp_kept.specs.Calls.{KeepsEra, KeepsAsks, KeepsOuts, Seals}
-use Rattle.jsp_kept.specs.Eras.{GoesOn, WasSealed, Grows, Performs, Prepares, no_memory}
+use Rattle.jsp_kept.specs.Eras.{EraContinues, WasSealed, Grows, GrowsAsAsked, Prepares, no_memory}
 use Rattle.jsp_kept.proofs.Weights.{asks_own, outs_own, asks_append, outs_append}
 use Rattle.jsp_kept.proofs.Owns.{undone_own}
 use Rattle.jsp_kept.proofs.Keeping.{CountsUp}
@@ -69,11 +69,11 @@ grows_sealed h k s full = record {
 -- ---- one part after another
 
 -- where a later era was full
-full_then : (h k : History) (xs later : List Step) → k.era ≡ h.era → k.era ≤ length k.steps + length later → GoesOn h k xs ⊎ WasSealed h k xs → h.era ≤ length h.steps + length (xs ++ later)
+full_then : (h k : History) (xs later : List Step) → k.era ≡ h.era → k.era ≤ length k.steps + length later → EraContinues h k xs ⊎ WasSealed h k xs → h.era ≤ length h.steps + length (xs ++ later)
 full_then h k xs later same full (inl a) = omega (arith, same, full, ap length a.steps, length-append h.steps xs, length-append xs later)
 full_then h k xs later same full (inr a) = omega (arith, a.full, ap length a.steps, length-append a.earlier k.steps, length-append xs later)
 
-eras_then : (h k l : History) (xs ys : List Step) → Grows h k xs → Grows k l ys → GoesOn h k xs ⊎ WasSealed h k xs → GoesOn k l ys ⊎ WasSealed k l ys → GoesOn h l (xs ++ ys) ⊎ WasSealed h l (xs ++ ys)
+eras_then : (h k l : History) (xs ys : List Step) → Grows h k xs → Grows k l ys → EraContinues h k xs ⊎ WasSealed h k xs → EraContinues k l ys ⊎ WasSealed k l ys → EraContinues h l (xs ++ ys) ⊎ WasSealed h l (xs ++ ys)
 eras_then h k l xs ys g q (inl a) (inl b) = inl (record {
   steps = b.steps ∙ (ap (λ w. w ++ ys) a.steps ∙ append_assoc h.steps xs ys);
   is_sealed = b.is_sealed ∙ a.is_sealed;
@@ -138,7 +138,7 @@ prepares_none h = record { steps = []; grows = grows_none h; own_steps = refl; c
 pub prepares_sealed : (h k : History) → Seals h k → h.era ≤ length h.steps → Prepares h k
 prepares_sealed h k s full = record { steps = []; grows = grows_sealed h k s full; own_steps = refl; covers = rw s.debt (covers_itself h.debt) }
 
-pub performs_then : (h k l : History) (own : List Step) (r : Result Unit Stopped) → Prepares h k → Performs k l own r → Performs h l own r
+pub performs_then : (h k l : History) (own : List Step) (r : Result Unit Stopped) → Prepares h k → GrowsAsAsked k l own r → GrowsAsAsked h l own r
 performs_then h k l own r p q = record {
   steps = p.steps ++ q.steps;
   grows = grows_then h k l p.steps q.steps p.grows q.grows;
@@ -147,7 +147,7 @@ performs_then h k l own r p q = record {
 }
 
 -- a call that was stopped, and what it left
-pub performs_on : (h k l : History) (own : List Step) (e : Stopped) (r : Result Unit Stopped) → Performs h k own (Err e) → Performs k l [] r → Performs h l own r
+pub performs_on : (h k l : History) (own : List Step) (e : Stopped) (r : Result Unit Stopped) → GrowsAsAsked h k own (Err e) → GrowsAsAsked k l [] r → GrowsAsAsked h l own r
 performs_on h k l own e r p q = record {
   steps = p.steps ++ q.steps;
   grows = grows_then h k l p.steps q.steps p.grows q.grows;
@@ -155,14 +155,14 @@ performs_on h k l own e r p q = record {
   leaves = leaves_then r h k l p.steps q.steps p.grows.state p.leaves q.leaves;
 }
 
-pub performs_stopped : (h k : History) (e : Stopped) → Prepares h k → Performs h k [] (Err e)
+pub performs_stopped : (h k : History) (e : Stopped) → Prepares h k → GrowsAsAsked h k [] (Err e)
 performs_stopped h k e p = record { steps = p.steps; grows = p.grows; own_steps = p.own_steps; leaves = p.covers }
 
 -- it made no step of its own
-pub performs_unmade : (h k : History) (x : Input) (e : Stopped) → e.done ≡ false → Prepares h k → Performs h k (acted {A = Unit {0}} h.state x (Err e)) (Err e)
+pub performs_unmade : (h k : History) (x : Input) (e : Stopped) → e.done ≡ false → Prepares h k → GrowsAsAsked h k (acted {A = Unit {0}} h.state x (Err e)) (Err e)
 performs_unmade h k x e undone p = record { steps = p.steps; grows = p.grows; own_steps = p.own_steps ∙ sym (undone_own h.state x (Err e) undone); leaves = p.covers }
 
-pub stopped_prepares : (h k : History) (e : Stopped) → Performs h k [] (Err e) → Prepares h k
+pub stopped_prepares : (h k : History) (e : Stopped) → GrowsAsAsked h k [] (Err e) → Prepares h k
 stopped_prepares h k e p = record { steps = p.steps; grows = p.grows; own_steps = p.own_steps; covers = p.leaves }
 
 pub prepares_then : (h k l : History) → Prepares h k → Prepares k l → Prepares h l
@@ -171,7 +171,7 @@ prepares_then h k l p q = stopped_prepares h l (no_memory false) (performs_then 
 -- ---- one call of the house
 
 pub performs_in_era : (h k : History) (own steps : List Step) (r : Result Unit Stopped) → KeepsEra h k → Makes h.state k.state h.steps k.steps steps → CountsUp h k (own_of steps) → own_of steps ≡ own
-    → Leaves r k.state (touched h.state steps ++ h.debt) k.debt → Performs h k own r
+    → Leaves r k.state (touched h.state steps ++ h.debt) k.debt → GrowsAsAsked h k own r
 performs_in_era h k own steps r era makes counts is left = record { steps = steps; grows = grows_in_era h k steps era makes counts; own_steps = is; leaves = left }
 
 pub prepares_in_era : (h k : History) → KeepsEra h k → (g : Goes h.state k.state h.debt k.debt h.steps k.steps) → CountsUp h k (own_of g.steps) → Prepares h k

@@ -12,7 +12,7 @@ use Rattle.jsp_model.specs.Lookup.{is_open}
 use Rattle.jsp_model.specs.House.{accepts, acted, step_of, was_done}
 use Rattle.jsp_quiet.proofs.Unasked.{still_accepts}
 use Rattle.jsp_kept.specs.Calls.{Begins, KeepsAsks, KeepsOuts, RaisesAsks, made, raised}
-use Rattle.jsp_kept.specs.Eras.{Performs, Prepares, no_memory}
+use Rattle.jsp_kept.specs.Eras.{GrowsAsAsked, Prepares, no_memory}
 use Rattle.jsp_kept.specs.History.{History, Place}
 use Rattle.jsp_model.specs.declared.house.Input.TheVariants as input
 use Rattle.jsp_model.specs.declared.house.Why.TheVariants as why
@@ -26,9 +26,9 @@ use Rattle.jsp_kept.proofs.Turning.{prepares_leaves}
 own_if : (a b : Bool) (done : Bool) (x : Input) → a ≡ b → (cond (a && done) (step_of x ∷ []) []) ≡ (cond (b && done) (step_of x ∷ []) [])
 own_if a b done x is = ap (λ c. cond (c && done) (step_of x ∷ []) []) is
 
-pub acted_then : (h k l : History) (x : Input) (r : Result Unit Stopped) → Prepares h k → Performs k l (acted k.state x r) r → Performs h l (acted h.state x r) r
+pub acted_then : (h k l : History) (x : Input) (r : Result Unit Stopped) → Prepares h k → GrowsAsAsked k l (acted k.state x r) r → GrowsAsAsked h l (acted h.state x r) r
 acted_then h k l x r p q =
-    performs_then h k l (acted h.state x r) r p (subst (λ own. Performs k l own r) (own_if (accepts k.state x) (accepts h.state x) (was_done r) x (still_accepts h.state k.state x (prepares_leaves h k p))) q)
+    performs_then h k l (acted h.state x r) r p (subst (λ own. GrowsAsAsked k l own r) (own_if (accepts k.state x) (accepts h.state x) (was_done r) x (still_accepts h.state k.state x (prepares_leaves h k p))) q)
 
 own_done : (a d e : Bool) (x : Input) → d ≡ e → (cond (a && d) (step_of x ∷ []) []) ≡ (cond (a && e) (step_of x ∷ []) [])
 own_done a d e x is = ap (λ c. cond (a && c) (step_of x ∷ []) []) is
@@ -38,10 +38,10 @@ finished_done (Ok u) h = refl
 finished_done (Err e) h = ap (λ (x : Stopped). x.done) h
 
 -- it was stopped behind its own step, and went on
-pub acted_on : (h k l : History) (x : Input) (e : Stopped) (r : Result Unit Stopped) → e.done ≡ true → Performs h k (acted {A = Unit {0}} h.state x (Err e)) (Err e) → Performs k l [] r → IfErr r (λ e. e ≡ no_memory true)
-    → Performs h l (acted h.state x r) r
+pub acted_on : (h k l : History) (x : Input) (e : Stopped) (r : Result Unit Stopped) → e.done ≡ true → GrowsAsAsked h k (acted {A = Unit {0}} h.state x (Err e)) (Err e) → GrowsAsAsked k l [] r → IfErr r (λ e. e ≡ no_memory true)
+    → GrowsAsAsked h l (acted h.state x r) r
 acted_on h k l x e r done p q is =
-    performs_on h k l (acted h.state x r) e r (subst (λ own. Performs h k own (Err e)) (own_done (accepts h.state x) e.done (was_done r) x (done ∙ sym (finished_done r is))) p) q
+    performs_on h k l (acted h.state x r) e r (subst (λ own. GrowsAsAsked h k own (Err e)) (own_done (accepts h.state x) e.done (was_done r) x (done ∙ sym (finished_done r is))) p) q
 
 -- ---- counts
 
@@ -92,9 +92,9 @@ begins_then h k l p q ready a o b =
       outs_book = b.outs_book ∙ o.book;
     }
 
-pub opens_then : {A : Type 0} (h k l : History) (s : ℕ) (r : Result A Stopped) → Prepares h k → s ≡ h.state.last_session + 1 → Performs k l (acted k.state (input.Open s) (outcome r)) (outcome r)
-    → Performs h l (acted h.state (input.Open (h.state.last_session + 1)) (outcome r)) (outcome r)
-opens_then h k l s r p is q = subst (λ n. Performs h l (acted h.state (input.Open n) (outcome r)) (outcome r)) is (acted_then h k l (input.Open s) (outcome r) p q)
+pub opens_then : {A : Type 0} (h k l : History) (s : ℕ) (r : Result A Stopped) → Prepares h k → s ≡ h.state.last_session + 1 → GrowsAsAsked k l (acted k.state (input.Open s) (outcome r)) (outcome r)
+    → GrowsAsAsked h l (acted h.state (input.Open (h.state.last_session + 1)) (outcome r)) (outcome r)
+opens_then h k l s r p is q = subst (λ n. GrowsAsAsked h l (acted h.state (input.Open n) (outcome r)) (outcome r)) is (acted_then h k l (input.Open s) (outcome r) p q)
 
 pub not_begun : {A : Type 0} (h : History) (r : Result A Stopped) → IfErr r (λ e. (e.done ≡ false) × (e.why ≡ why.NoMemory)) → IfErr r (λ e. MayNotBegin h e.why)
 not_begun h (Ok x) k = tt

@@ -8,7 +8,7 @@ use Rattle.jsp_model.specs.declared.house.Settled.{Settled}
 use Rattle.jsp_model.specs.declared.house.Settled.TheVariants as settled
 use Rattle.jsp_model.specs.declared.house.Why.TheVariants as why
 use Rattle.jsp_model.specs.Settling.{settle_step, first_unquiet, AllQuiet}
-use Rattle.jsp_model.specs.House.{Answers, AnswersOf, Covers, Leaves, settled_by, was_done}
+use Rattle.jsp_model.specs.House.{AnswersTurn, AnswersOf, Covers, Leaves, settled_by, was_done}
 use Rattle.std.specs.Prelude.{not}
 use Rattle.std.proofs.lemmas.Bool.{and_parts, not-true}
 use Rattle.std.proofs.Common.{true≢false}
@@ -21,7 +21,7 @@ use Rattle.jsp_quiet.proofs.Covering.{all_parts, covered}
 use Rattle.jsp_quiet.proofs.Unasked.{LeavesVotes, free_run_leaves, same_turn}
 use Rattle.jsp_quiet.proofs.Turns.{none_unquiet, still_quiet}
 use Rattle.jsp_kept.specs.Calls.{outcome}
-use Rattle.jsp_kept.specs.Eras.{Performs, Prepares, no_memory}
+use Rattle.jsp_kept.specs.Eras.{GrowsAsAsked, Prepares, no_memory}
 use Rattle.jsp_kept.specs.History.{History}
 use Rattle.jsp_kept.proofs.Growing.{performs_then, performs_on}
 
@@ -42,13 +42,13 @@ prepares_turn h k p = same_turn h.state k.state (prepares_leaves h k p)
 own_same : (b : Bool) (x y : Option Step) → x ≡ y → (if b then option_to_list x else []) ≡ (if b then option_to_list y else [])
 own_same b x y is = ap (λ (o : Option Step). if b then option_to_list o else []) is
 
-pub votes_then : (h k l : History) (r : Result Settled Stopped) → Prepares h k → Performs k l (settled_by k.state r) (outcome r) → Performs h l (settled_by h.state r) (outcome r)
-votes_then h k l r p q = performs_then h k l (settled_by h.state r) (outcome r) p (subst (λ own. Performs k l own (outcome r)) (own_same (was_done r) (settle_step k.state) (settle_step h.state) (prepares_turn h k p)) q)
+pub votes_then : (h k l : History) (r : Result Settled Stopped) → Prepares h k → GrowsAsAsked k l (settled_by k.state r) (outcome r) → GrowsAsAsked h l (settled_by h.state r) (outcome r)
+votes_then h k l r p q = performs_then h k l (settled_by h.state r) (outcome r) p (subst (λ own. GrowsAsAsked k l own (outcome r)) (own_same (was_done r) (settle_step k.state) (settle_step h.state) (prepares_turn h k p)) q)
 
-pub undone_prepares : (h k : History) (e : Stopped) → e.done ≡ false → Performs h k (settled_by h.state (Err e)) (Err e) → Prepares h k
+pub undone_prepares : (h k : History) (e : Stopped) → e.done ≡ false → GrowsAsAsked h k (settled_by h.state (Err e)) (Err e) → Prepares h k
 undone_prepares h k e undone p = record { steps = p.steps; grows = p.grows; own_steps = p.own_steps ∙ rw undone refl; covers = p.leaves }
 
-pub answers_then : (h k : History) (new : State) (s : Settled) → Prepares h k → (settle_step h.state ≡ None → ⊥) → Answers k.state new s → Answers h.state new s
+pub answers_then : (h k : History) (new : State) (s : Settled) → Prepares h k → (settle_step h.state ≡ None → ⊥) → AnswersTurn k.state new s → AnswersTurn h.state new s
 answers_then h k new settled.Voted p votes a = (a.0, a.1, sym (prepares_turn h k p) ∙ a.2)
 answers_then h k new settled.Decided p votes a = (a.0, a.1, sym (prepares_turn h k p) ∙ a.2)
 answers_then h k new settled.Quieted p votes a = absurd (votes (sym (prepares_turn h k p) ∙ a.0))
@@ -76,33 +76,33 @@ clashes st q found all =
     true≢false (sym quiet ∙ not-true (is_quiet st q) here.1)
 
 -- the first space that wasn't quiet was owed, so it is quiet now
-quieted : (h l : History) (owed : List ℕ) (q : ℕ) → IsSteady h.state → settle_step h.state ≡ None → Covers owed (option_to_list (first_unquiet h.state)) → are_quiet l.state owed ≡ true → Performs h l [] (Ok tt)
-    → first_unquiet l.state ≡ Some q → Answers h.state l.state settled.Quieted
+quieted : (h l : History) (owed : List ℕ) (q : ℕ) → IsSteady h.state → settle_step h.state ≡ None → Covers owed (option_to_list (first_unquiet h.state)) → are_quiet l.state owed ≡ true → GrowsAsAsked h l [] (Ok tt)
+    → first_unquiet l.state ≡ Some q → AnswersTurn h.state l.state settled.Quieted
 quieted h l owed q steady none owes quiet all found = at (first_unquiet h.state) refl owes
   where
-    at : (o : Option ℕ) → first_unquiet h.state ≡ o → Covers owed (option_to_list o) → Answers h.state l.state settled.Quieted
+    at : (o : Option ℕ) → first_unquiet h.state ≡ o → Covers owed (option_to_list o) → AnswersTurn h.state l.state settled.Quieted
     at (Some p) e c = (none, p, e, (and_parts (is_quiet l.state p) true (covered (is_quiet l.state) owed (p ∷ []) c quiet)).0)
     at None e c =
         let here : are_quiet l.state (touched h.state all.steps) ≡ true = (all_parts (is_quiet l.state) (touched h.state all.steps) h.debt all.leaves.1).0 in
         absurd (clashes l.state q found (still_quiet h.state l.state all.steps steady all.grows.run (sym all.grows.state) all.own_steps here (none_unquiet h.state e)))
 
-quiet_at : (h l : History) (owed : List ℕ) (s : Settled) → IsSteady h.state → settle_step h.state ≡ None → Covers owed (option_to_list (first_unquiet h.state)) → are_quiet l.state owed ≡ true → Performs h l [] (Ok tt)
-    → s ≡ (if is_none (first_unquiet l.state) then settled.Idle else settled.Quieted) → Answers h.state l.state s
+quiet_at : (h l : History) (owed : List ℕ) (s : Settled) → IsSteady h.state → settle_step h.state ≡ None → Covers owed (option_to_list (first_unquiet h.state)) → are_quiet l.state owed ≡ true → GrowsAsAsked h l [] (Ok tt)
+    → s ≡ (if is_none (first_unquiet l.state) then settled.Idle else settled.Quieted) → AnswersTurn h.state l.state s
 quiet_at h l owed s steady none owes quiet all is = at (first_unquiet l.state) refl is
   where
-    at : (o : Option ℕ) → first_unquiet l.state ≡ o → s ≡ (if is_none o then settled.Idle else settled.Quieted) → Answers h.state l.state s
-    at None e k = subst (Answers h.state l.state) (sym k) (none, none_unquiet l.state e)
-    at (Some q) e k = subst (Answers h.state l.state) (sym k) (quieted h l owed q steady none owes quiet all e)
+    at : (o : Option ℕ) → first_unquiet l.state ≡ o → s ≡ (if is_none o then settled.Idle else settled.Quieted) → AnswersTurn h.state l.state s
+    at None e k = subst (AnswersTurn h.state l.state) (sym k) (none, none_unquiet l.state e)
+    at (Some q) e k = subst (AnswersTurn h.state l.state) (sym k) (quieted h l owed q steady none owes quiet all e)
 
-pub quiet_answers : (h k l : History) (e : Stopped) (r : Result Settled Stopped) → IsSteady h.state → settle_step h.state ≡ None → Performs h k (settled_by h.state (Err e)) (Err e)
-    → AnswersOf h.state k.state k.debt (Err e) → Performs k l [] (outcome r) → IfOk r (λ s. e.why ≡ why.EraFull) → IfOk r (λ s. s ≡ (if is_none (first_unquiet l.state) then settled.Idle else settled.Quieted))
-    → IfOk r (Answers h.state l.state)
+pub quiet_answers : (h k l : History) (e : Stopped) (r : Result Settled Stopped) → IsSteady h.state → settle_step h.state ≡ None → GrowsAsAsked h k (settled_by h.state (Err e)) (Err e)
+    → AnswersOf h.state k.state k.debt (Err e) → GrowsAsAsked k l [] (outcome r) → IfOk r (λ s. e.why ≡ why.EraFull) → IfOk r (λ s. s ≡ (if is_none (first_unquiet l.state) then settled.Idle else settled.Quieted))
+    → IfOk r (AnswersTurn h.state l.state)
 quiet_answers h k l e (Err x) steady none first owes rest full is = tt
 quiet_answers h k l e (Ok s) steady none first owes rest full is =
-    let free : Performs h k [] (Err e) = subst (λ own. Performs h k own (Err e)) (none_settled h.state (Err e) none) first in
+    let free : GrowsAsAsked h k [] (Err e) = subst (λ own. GrowsAsAsked h k own (Err e)) (none_settled h.state (Err e) none) first in
     quiet_at h l k.debt s steady none (owes full none) (all_parts (is_quiet l.state) (touched k.state rest.steps) k.debt rest.leaves.1).1 (performs_on h k l [] e (Ok tt) free rest) is
 
-pub quiet_performs : (h k l : History) (e : Stopped) (r : Result Settled Stopped) → settle_step h.state ≡ None → Performs h k (settled_by h.state (Err e)) (Err e) → Performs k l [] (outcome r)
-    → Performs h l (settled_by h.state r) (outcome r)
+pub quiet_performs : (h k l : History) (e : Stopped) (r : Result Settled Stopped) → settle_step h.state ≡ None → GrowsAsAsked h k (settled_by h.state (Err e)) (Err e) → GrowsAsAsked k l [] (outcome r)
+    → GrowsAsAsked h l (settled_by h.state r) (outcome r)
 quiet_performs h k l e r none first rest =
-    performs_on h k l (settled_by h.state r) e (outcome r) (subst (λ own. Performs h k own (Err e)) (none_settled h.state (Err e) none ∙ sym (none_settled h.state r none)) first) rest
+    performs_on h k l (settled_by h.state r) e (outcome r) (subst (λ own. GrowsAsAsked h k own (Err e)) (none_settled h.state (Err e) none ∙ sym (none_settled h.state r none)) first) rest

@@ -14,7 +14,7 @@ use Rattle.jsp_kept.specs.History.{History, limit_of}
 -- ---- the eras
 
 -- the era goes on by these steps
-pub record GoesOn (h k : History) (made : List Step) : Type 0 where
+pub record EraContinues (h k : History) (made : List Step) : Type 0 where
   pub steps : k.steps ≡ h.steps ++ made
   pub is_sealed : k.is_sealed ≡ h.is_sealed
 
@@ -29,7 +29,7 @@ pub record WasSealed (h k : History) (made : List Step) : Type 0 where
 pub record Grows (h k : History) (made : List Step) : Type 0 where
   pub run : IsRun h.state made
   pub state : k.state ≡ state_after h.state made
-  pub eras : GoesOn h k made ⊎ WasSealed h k made
+  pub eras : EraContinues h k made ⊎ WasSealed h k made
   pub asked : (i : ℕ) → get_or k.asked i 0 ≡ get_or h.asked i 0 + asks_of (i + 1) made
   pub taken : (i : ℕ) → get_or k.taken i 0 ≡ get_or h.taken i 0 + outs_of (i + 1) made
   pub spaces : k.spaces ≡ h.spaces
@@ -39,7 +39,7 @@ pub record Grows (h k : History) (made : List Step) : Type 0 where
 
 -- Steps were made, those that were asked for are `own`, and what was touched and owed is quiet, or owed where the call was
 -- stopped.
-pub record Performs (h k : History) (own : List Step) (result : Result Unit Stopped) : Type 0 where
+pub record GrowsAsAsked (h k : History) (own : List Step) (result : Result Unit Stopped) : Type 0 where
   pub steps : List Step
   pub grows : Grows h k steps
   pub own_steps : own_of steps ≡ own

@@ -4,11 +4,11 @@ ghost use Rattle.jsp_model.specs.declared.house.Input.TheVariants as input;
 ghost use Rattle.jsp_model.specs.declared.house.Why.TheVariants as why;
 ghost use Rattle.jsp_model.specs.Lookup.{is_open};
 ghost use Rattle.jsp_model.specs.Outboxes.{outbox_of};
-ghost use Rattle.jsp_model.specs.House.{Answers, acted, handed_out, settled_by};
+ghost use Rattle.jsp_model.specs.House.{AnswersTurn, acted, handed_out, settled_by};
 ghost use Rattle.jsp_drive.specs.Line.{input_of, is_line_input};
 ghost use Rattle.jsp_kept.specs.History.{is_lawful};
 ghost use Rattle.jsp_kept.specs.Calls.{Begins, KeepsAsks, KeepsOuts, MayNotBegin, RaisesAsks, RaisesOuts, audit, made, outcome};
-ghost use Rattle.jsp_kept.specs.Eras.{Grows, Performs};
+ghost use Rattle.jsp_kept.specs.Eras.{Grows, GrowsAsAsked};
 
 use crate::counts::may_count;
 use crate::in_era::unmade;
@@ -25,7 +25,7 @@ const SESSIONS: u64 = 1 << 31;
 impl<H: House, A: Ledger, O: Ledger> Kept<H, A, O> {
     /// Opens a session, numbered one above the last.
     pub fn begin(&mut self) -> Result<Seat<A, O>, Stopped>
-        ensures performs { Performs self.old self.new (acted self.old.state (input.Open (self.old.state.last_session + 1)) (outcome result)) (outcome result) }
+        ensures performs { GrowsAsAsked self.old self.new (acted self.old.state (input.Open (self.old.state.last_session + 1)) (outcome result)) (outcome result) }
         ensures begins { IfOk result (λ s. Begins self.old self.new s.asks s.outs) }
         ensures not_done { IfErr result (λ e. e.done ≡ false) }
         ensures why { IfErr result (λ e. MayNotBegin self.old e.why) }
@@ -48,7 +48,7 @@ impl<H: House, A: Ledger, O: Ledger> Kept<H, A, O> {
     pub fn act(&mut self, seat: &mut AskSeat<A>, given: LineInput) -> Result<(), Stopped>
         requires { IsTrue (is_line_input given) }
         ensures audit { is_lawful self.old.asked self.old.asks_book seat.old ≡ false → (result ≡ Err audit) × (self.new ≡ self.old) × (seat.new ≡ seat.old) }
-        ensures performs { is_lawful self.old.asked self.old.asks_book seat.old ≡ true → Performs self.old self.new (acted self.old.state (input_of seat.old.session given) result) result }
+        ensures performs { is_lawful self.old.asked self.old.asks_book seat.old ≡ true → GrowsAsAsked self.old self.new (acted self.old.state (input_of seat.old.session given) result) result }
         ensures counts { is_lawful self.old.asked self.old.asks_book seat.old ≡ true → RaisesAsks self.old self.new seat.old seat.new (made (is_open self.old.state seat.old.session) result) }
         ensures why { is_lawful self.old.asked self.old.asks_book seat.old ≡ true → IfErr result (λ e. e.why ≡ why.NoMemory) }
         ensures outs { KeepsOuts self.old self.new }
@@ -74,7 +74,7 @@ impl<H: House, A: Ledger, O: Ledger> Kept<H, A, O> {
 
     /// A reading of the clock, in milliseconds.
     pub fn clock(&mut self, time: u64) -> Result<(), Stopped>
-        ensures performs { Performs self.old self.new (acted self.old.state (input.Clock time) result) result }
+        ensures performs { GrowsAsAsked self.old self.new (acted self.old.state (input.Clock time) result) result }
         ensures why { IfErr result (λ e. e.why ≡ why.NoMemory) }
         ensures asks { KeepsAsks self.old self.new }
         ensures outs { KeepsOuts self.old self.new }
@@ -91,8 +91,8 @@ impl<H: House, A: Ledger, O: Ledger> Kept<H, A, O> {
 
     /// One turn of what waits for nobody's input.
     pub fn settle(&mut self) -> Result<Settled, Stopped>
-        ensures performs { Performs self.old self.new (settled_by self.old.state result) (outcome result) }
-        ensures answers { IfOk result (Answers self.old.state self.new.state) }
+        ensures performs { GrowsAsAsked self.old self.new (settled_by self.old.state result) (outcome result) }
+        ensures answers { IfOk result (AnswersTurn self.old.state self.new.state) }
         ensures why { IfErr result (λ e. e.why ≡ why.NoMemory) }
         ensures asks { KeepsAsks self.old self.new }
         ensures outs { KeepsOuts self.old self.new }
@@ -106,7 +106,7 @@ impl<H: House, A: Ledger, O: Ledger> Kept<H, A, O> {
 
     /// Makes what a stopped call left, and what is due, without a step of its own.
     pub fn finish(&mut self) -> Result<(), Stopped>
-        ensures performs { Performs self.old self.new [] result }
+        ensures performs { GrowsAsAsked self.old self.new [] result }
         ensures why { IfErr result (λ e. e.why ≡ why.NoMemory) }
         ensures asks { KeepsAsks self.old self.new }
         ensures outs { KeepsOuts self.old self.new }

@@ -8,7 +8,7 @@ ghost use Rattle.jsp_model.specs.House.{AnswersOf, IsReady, acted, handed_out, i
 ghost use Rattle.jsp_quiet.specs.Steady.{IsSteady};
 ghost use Rattle.jsp_kept.specs.History.{is_lawful};
 ghost use Rattle.jsp_kept.specs.Calls.{Begins, IsOf, KeepsAsks, KeepsOuts, RaisesAsks, RaisesOuts, made, outcome};
-ghost use Rattle.jsp_kept.specs.Eras.{Grows, HasPlace, IsNearer, NeedsMemory, Performs, Prepares};
+ghost use Rattle.jsp_kept.specs.Eras.{Grows, HasPlace, IsNearer, NeedsMemory, GrowsAsAsked, Prepares};
 
 use crate::counts::{raise, reserve_both};
 use crate::kept::Kept;
@@ -34,7 +34,7 @@ impl<H: House, A: Ledger, O: Ledger> Kept<H, A, O> {
     /// Makes what is left and due.
     pub(crate) fn finish_in_era(&mut self) -> Result<(), Stopped>
         requires { HasPlace self.old }
-        ensures performs { Performs self.old self.new [] result }
+        ensures performs { GrowsAsAsked self.old self.new [] result }
         ensures nearer { IfErr result (λ e. IsNearer self.old self.new e.why) }
         ensures asks { KeepsAsks self.old self.new }
         ensures outs { KeepsOuts self.old self.new }
@@ -45,7 +45,7 @@ impl<H: House, A: Ledger, O: Ledger> Kept<H, A, O> {
     /// A settle turn.
     pub(crate) fn settle_in_era(&mut self) -> Result<Settled, Stopped>
         requires { HasPlace self.old }
-        ensures performs { Performs self.old self.new (settled_by self.old.state result) (outcome result) }
+        ensures performs { GrowsAsAsked self.old self.new (settled_by self.old.state result) (outcome result) }
         ensures answers { AnswersOf self.old.state self.new.state self.new.debt result }
         ensures nearer { IfErr result (λ e. e.done ≡ false → IsNearer self.old self.new e.why) }
         ensures steady { IsSteady self.old.state }
@@ -59,7 +59,7 @@ impl<H: House, A: Ledger, O: Ledger> Kept<H, A, O> {
     pub(crate) fn clock_in_era(&mut self, time: u64) -> Result<(), Stopped>
         requires place { HasPlace self.old }
         requires ready { IsReady self.old.state self.old.debt (input.Clock time) }
-        ensures performs { Performs self.old self.new (acted self.old.state (input.Clock time) result) result }
+        ensures performs { GrowsAsAsked self.old self.new (acted self.old.state (input.Clock time) result) result }
         ensures why { IfErr result NeedsMemory }
         ensures asks { KeepsAsks self.old self.new }
         ensures outs { KeepsOuts self.old self.new }
@@ -75,7 +75,7 @@ impl<H: House, A: Ledger, O: Ledger> Kept<H, A, O> {
         requires of { IsOf seat.old.session input }
         requires place { HasPlace self.old }
         requires ready { IsReady self.old.state self.old.debt input }
-        ensures performs { Performs self.old self.new (acted self.old.state input result) result }
+        ensures performs { GrowsAsAsked self.old self.new (acted self.old.state input result) result }
         ensures counts { RaisesAsks self.old self.new seat.old seat.new (made (is_open self.old.state seat.old.session) result) }
         ensures why { IfErr result NeedsMemory }
         ensures outs { KeepsOuts self.old self.new }
@@ -97,7 +97,7 @@ impl<H: House, A: Ledger, O: Ledger> Kept<H, A, O> {
         requires most { session ≤ 2 ^ 31 }
         requires place { HasPlace self.old }
         requires ready { IsReady self.old.state self.old.debt (input.Open session) }
-        ensures performs { Performs self.old self.new (acted self.old.state (input.Open session) (outcome result)) (outcome result) }
+        ensures performs { GrowsAsAsked self.old self.new (acted self.old.state (input.Open session) (outcome result)) (outcome result) }
         ensures begins { IfOk result (λ s. Begins self.old self.new s.asks s.outs) }
         ensures err { IfErr result (λ e. (e.done ≡ false) × (e.why ≡ why.NoMemory)) }
         ensures asks { OnErr result (KeepsAsks self.old self.new) }

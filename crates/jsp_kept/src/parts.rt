@@ -7,10 +7,10 @@ ghost use Rattle.jsp_model.specs.declared.house.Why.TheVariants as why;
 ghost use Rattle.std.specs.List.{list_any};
 ghost use Rattle.jsp_model.specs.Lookup.{is_open};
 ghost use Rattle.jsp_model.specs.Outboxes.{outbox_of};
-ghost use Rattle.jsp_model.specs.House.{Answers, IsReady, acted, is_input, settled_by};
+ghost use Rattle.jsp_model.specs.House.{AnswersTurn, IsReady, acted, is_input, settled_by};
 ghost use Rattle.jsp_kept.specs.History.{is_lawful, limit_of};
 ghost use Rattle.jsp_kept.specs.Calls.{IsOf, KeepsAsks, KeepsOuts, RaisesAsks, audit, made, outcome};
-ghost use Rattle.jsp_kept.specs.Eras.{HasPlace, Performs};
+ghost use Rattle.jsp_kept.specs.Eras.{HasPlace, GrowsAsAsked};
 ghost use Rattle.jsp_kept.specs.Parts.{EndsPart, IsLong, PerformsBeside, PreparesBeside, begun, limit_begun};
 
 use crate::counts::{may_count, raise};
@@ -87,7 +87,7 @@ impl<H: InParts, A: Ledger, O: Ledger> Kept<H, A, O> {
 
     /// Makes what stopped calls left, and what is due, in at most so many steps.
     pub fn finish_some(&mut self, most: u64) -> Result<(), Stopped>
-        ensures performs { Performs self.old self.new [] result }
+        ensures performs { GrowsAsAsked self.old self.new [] result }
         ensures why { IfErr result (λ e. EndsPart e.why) }
         ensures asks { KeepsAsks self.old self.new }
         ensures outs { KeepsOuts self.old self.new }
@@ -100,8 +100,8 @@ impl<H: InParts, A: Ledger, O: Ledger> Kept<H, A, O> {
 
     /// One turn of what waits for nobody's input, in at most so many steps.
     pub fn settle_some(&mut self, most: u64) -> Result<Settled, Stopped>
-        ensures performs { Performs self.old self.new (settled_by self.old.state result) (outcome result) }
-        ensures answers { IfOk result (Answers self.old.state self.new.state) }
+        ensures performs { GrowsAsAsked self.old self.new (settled_by self.old.state result) (outcome result) }
+        ensures answers { IfOk result (AnswersTurn self.old.state self.new.state) }
         ensures why { IfErr result (λ e. EndsPart e.why) }
         ensures asks { KeepsAsks self.old self.new }
         ensures outs { KeepsOuts self.old self.new }
@@ -112,8 +112,9 @@ impl<H: InParts, A: Ledger, O: Ledger> Kept<H, A, O> {
         self.settle_part(most)
     }
 
-    /// Applies some of what was decided earlier where the input is acted next, in a time that doesn't
-    /// grow with how much that is. Whether nothing is left there; else the input's call takes longer.
+    /// Applies some of what was decided earlier where the input is acted next, in a time that
+    /// doesn't grow with how much that is. Whether nothing is left there; else the input's call
+    /// takes longer.
     pub fn apply_before(&mut self, input: &Input) -> bool
         ensures { self.new ≡ self.old }
     {
@@ -203,7 +204,7 @@ impl<H: InParts, A: Ledger, O: Ledger> Kept<H, A, O> {
     }
 
     fn finish_part(&mut self, most: u64) -> Result<(), Stopped>
-        ensures performs { Performs self.old self.new [] result }
+        ensures performs { GrowsAsAsked self.old self.new [] result }
         ensures why { IfErr result (λ e. EndsPart e.why) }
         ensures asks { KeepsAsks self.old self.new }
         ensures outs { KeepsOuts self.old self.new }
@@ -214,8 +215,8 @@ impl<H: InParts, A: Ledger, O: Ledger> Kept<H, A, O> {
     }
 
     fn settle_part(&mut self, most: u64) -> Result<Settled, Stopped>
-        ensures performs { Performs self.old self.new (settled_by self.old.state result) (outcome result) }
-        ensures answers { IfOk result (Answers self.old.state self.new.state) }
+        ensures performs { GrowsAsAsked self.old self.new (settled_by self.old.state result) (outcome result) }
+        ensures answers { IfOk result (AnswersTurn self.old.state self.new.state) }
         ensures why { IfErr result (λ e. EndsPart e.why) }
         ensures asks { KeepsAsks self.old self.new }
         ensures outs { KeepsOuts self.old self.new }

@@ -3,7 +3,7 @@ ghost use Rattle.std.specs.Prelude.{◌≡◌, ◌≤◌, [], true, length, Ok, 
 ghost use Rattle.jsp_model.specs.declared.house.Why.TheVariants as why;
 ghost use Rattle.jsp_model.specs.House.{IsReady};
 ghost use Rattle.jsp_kept.specs.Calls.{KeepsAsks, KeepsOuts};
-ghost use Rattle.jsp_kept.specs.Eras.{Grows, HasPlace, Performs, Prepares, no_memory};
+ghost use Rattle.jsp_kept.specs.Eras.{Grows, HasPlace, GrowsAsAsked, Prepares, no_memory};
 ghost use Rattle.jsp_kept.specs.History.{limit_of};
 ghost use Rattle.jsp_kept.specs.Parts.{begun, limit_begun};
 
@@ -68,7 +68,7 @@ impl<H: House, A: Ledger, O: Ledger> Kept<H, A, O> {
 
     /// Makes what is left and due.
     pub(crate) fn finish_all(&mut self) -> Result<(), NoMemory>
-        ensures ok { OnOk result (Performs self.old self.new [] (Ok tt)) }
+        ensures ok { OnOk result (GrowsAsAsked self.old self.new [] (Ok tt)) }
         ensures err { OnErr result (Prepares self.old self.new) }
         ensures asks { KeepsAsks self.old self.new }
         ensures outs { KeepsOuts self.old self.new }
@@ -82,7 +82,7 @@ impl<H: House, A: Ledger, O: Ledger> Kept<H, A, O> {
 
     /// Makes what a call left that was stopped behind its own step.
     pub(crate) fn go_on(&mut self, cause: Why) -> Result<(), Stopped>
-        ensures performs { Performs self.old self.new [] result }
+        ensures performs { GrowsAsAsked self.old self.new [] result }
         ensures err { IfErr result (λ e. e ≡ no_memory true) }
         ensures asks { KeepsAsks self.old self.new }
         ensures outs { KeepsOuts self.old self.new }

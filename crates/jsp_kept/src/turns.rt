@@ -3,9 +3,9 @@ ghost use Rattle.std.specs.Prelude.{◌≡◌, if◌then◌else◌, [], None, So
 ghost use Rattle.jsp_model.specs.declared.house.Settled.TheVariants as settled;
 ghost use Rattle.jsp_model.specs.declared.house.Why.TheVariants as why;
 ghost use Rattle.jsp_model.specs.Settling.{first_unquiet, settle_step};
-ghost use Rattle.jsp_model.specs.House.{Answers, next_turn, settled_by};
+ghost use Rattle.jsp_model.specs.House.{AnswersTurn, next_turn, settled_by};
 ghost use Rattle.jsp_kept.specs.Calls.{KeepsAsks, KeepsOuts, outcome};
-ghost use Rattle.jsp_kept.specs.Eras.{HasPlace, NeedsMemory, Performs, no_memory};
+ghost use Rattle.jsp_kept.specs.Eras.{HasPlace, NeedsMemory, GrowsAsAsked, no_memory};
 
 use crate::in_era::unmade;
 use crate::kept::Kept;
@@ -19,8 +19,8 @@ impl<H: House, A: Ledger, O: Ledger> Kept<H, A, O> {
     pub(crate) fn vote(&mut self, turn: Settled) -> Result<Settled, Stopped>
         requires turn { next_turn self.old.state ≡ Some turn }
         requires place { HasPlace self.old }
-        ensures performs { Performs self.old self.new (settled_by self.old.state result) (outcome result) }
-        ensures answers { IfOk result (Answers self.old.state self.new.state) }
+        ensures performs { GrowsAsAsked self.old self.new (settled_by self.old.state result) (outcome result) }
+        ensures answers { IfOk result (AnswersTurn self.old.state self.new.state) }
         ensures why { IfErr result (λ e. e.why ≡ why.NoMemory) }
         ensures asks { KeepsAsks self.old self.new }
         ensures outs { KeepsOuts self.old self.new }
@@ -43,8 +43,8 @@ impl<H: House, A: Ledger, O: Ledger> Kept<H, A, O> {
     fn vote_until_done(&mut self) -> Result<Settled, Stopped>
         requires votes { settle_step self.old.state ≡ None → ⊥ }
         requires place { HasPlace self.old }
-        ensures performs { Performs self.old self.new (settled_by self.old.state result) (outcome result) }
-        ensures answers { IfOk result (Answers self.old.state self.new.state) }
+        ensures performs { GrowsAsAsked self.old self.new (settled_by self.old.state result) (outcome result) }
+        ensures answers { IfOk result (AnswersTurn self.old.state self.new.state) }
         ensures why { IfErr result NeedsMemory }
         ensures asks { KeepsAsks self.old self.new }
         ensures outs { KeepsOuts self.old self.new }
@@ -68,8 +68,8 @@ impl<H: House, A: Ledger, O: Ledger> Kept<H, A, O> {
     pub(crate) fn quiet_next(&mut self) -> Result<Settled, Stopped>
         requires none { settle_step self.old.state ≡ None }
         requires place { HasPlace self.old }
-        ensures performs { Performs self.old self.new (settled_by self.old.state result) (outcome result) }
-        ensures answers { IfOk result (Answers self.old.state self.new.state) }
+        ensures performs { GrowsAsAsked self.old self.new (settled_by self.old.state result) (outcome result) }
+        ensures answers { IfOk result (AnswersTurn self.old.state self.new.state) }
         ensures why { IfErr result (λ e. e.why ≡ why.NoMemory) }
         ensures asks { KeepsAsks self.old self.new }
         ensures outs { KeepsOuts self.old self.new }
@@ -82,7 +82,7 @@ impl<H: House, A: Ledger, O: Ledger> Kept<H, A, O> {
 
     /// What such a turn left that was stopped. Where every space is quiet now, it answers that.
     fn quiet_rest(&mut self, cause: Why) -> Result<Settled, Stopped>
-        ensures performs { Performs self.old self.new [] (outcome result) }
+        ensures performs { GrowsAsAsked self.old self.new [] (outcome result) }
         ensures full { IfOk result (λ s. cause ≡ why.EraFull) }
         ensures answers { IfOk result (λ s. s ≡ (if is_none (first_unquiet self.new.state) then settled.Idle else settled.Quieted)) }
         ensures why { IfErr result (λ e. e ≡ no_memory false) }

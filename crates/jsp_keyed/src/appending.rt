@@ -10,8 +10,8 @@ use crate::{Keyed, Keying, NoMemory};
 use jsp_table::Numbering;
 
 impl<T, K: Numbering<T> + Keying<T>> Keyed<T, K> {
-    /// Whether these things may come after all others: their numbers rise, above those of all others
-    /// and above 0. Where one isn't above a number that is gone, it may be refused.
+    /// Whether these things may come after all others: their numbers rise, above those of all
+    /// others and above 0. Where one isn't above a number that is gone, it may be refused.
     pub fn may_append(&self, things: &[T]) -> bool
         ensures rising { OnTrue result (AreNumbered K.number_of (self.now ++ things.now)) }
         ensures positive { OnTrue result (AllByRecursion (λ x. 0 < K.number_of x) (self.now ++ things.now)) }
@@ -24,7 +24,8 @@ impl<T, K: Numbering<T> + Keying<T>> Keyed<T, K> {
         self.table.is_above(K::number(first)) && are_rising::<T, K>(things)
     }
 
-    /// Adds things at the end, whole or not at all. Where memory is refused they stay with the caller.
+    /// Adds things at the end, whole or not at all. Where memory is refused they stay with the
+    /// caller.
     pub fn append(&mut self, things: &mut Vec<T>) -> Result<(), NoMemory>
     where
         T: Drop,

@@ -29,8 +29,8 @@ impl<T, K: Numbering<T> + Keying<T>> Keyed<T, K> {
         }
     }
 
-    /// The same of those that are named, which all are that pass the test, each or none: where memory is
-    /// refused the other change takes this one back.
+    /// The same of those that are named, which all are that pass the test, each or none: where
+    /// memory is refused the other change takes this one back.
     pub fn try_change_named<P: Test<T> + ByEntry, C: TryChange<T>, U: Change<T>>(
         &mut self,
         numbers: &Numbers,

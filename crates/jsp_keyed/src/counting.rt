@@ -7,7 +7,8 @@ use crate::{Keyed, Keying, Keys};
 use jsp_table::{Numbering, Test};
 
 impl<T, K: Numbering<T> + Keying<T>> Keyed<T, K> {
-    /// How many things pass the test, which only things pass that have one of the keys that are sought.
+    /// How many things pass the test, which only things pass that have one of the keys that are
+    /// sought.
     pub fn count<P: Test<T> + Keys>(&self, test: &P) -> usize
         requires { (seed : ℕ) (x : T) → P.is_passed test.now x ≡ true → is_sought (P.sought test.now seed) (K.keys_of seed x) ≡ true }
         ensures { result ≡ length (filter (P.is_passed test.now) self.now) }
@@ -35,8 +36,8 @@ impl<T, K: Numbering<T> + Keying<T>> Keyed<T, K> {
         }
     }
 
-    /// Those that pass the test go, which only things pass that have one of the keys that are sought.
-    /// Takes no memory.
+    /// Those that pass the test go, which only things pass that have one of the keys that are
+    /// sought. Takes no memory.
     pub fn remove_all<P: Test<T> + Keys>(&mut self, test: &P)
     where
         T: Drop,

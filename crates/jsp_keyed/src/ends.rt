@@ -38,8 +38,8 @@ pub(crate) fn place_all(ends: &mut Leases, items: &[Item])
     }
 }
 
-/// Makes room for the ends of so many things whose numbers are no less than `first`. Where a thing that
-/// went had a greater number, the leases are made anew.
+/// Makes room for the ends of so many things whose numbers are no less than `first`. Where a thing
+/// that went had a greater number, the leases are made anew.
 pub(crate) fn make_ready<T, K: Numbering<T> + Keying<T>>(
     alloc: Global,
     ends: &mut Leases,

@@ -1,5 +1,5 @@
-//! The first thing that passes a test, among those that have one of the keys that are sought. Nothing
-//! here takes memory.
+//! The first thing that passes a test, among those that have one of the keys that are sought.
+//! Nothing here takes memory.
 ghost use Rattle.std.specs.Prelude.{◌≡◌, ◌<◌, ℕ, true, find, option_copied};
 ghost use Rattle.std.specs.List.{AllByRecursion, list_any};
 ghost use Rattle.jsp_table.specs.Hints.{names};
@@ -36,8 +36,8 @@ fn first_under<'a, T, K: Numbering<T>, P: Test<T>>(
     }
 }
 
-/// The first thing above a number that is named under one of the keys that are sought and passes the
-/// test.
+/// The first thing above a number that is named under one of the keys that are sought and passes
+/// the test.
 pub(crate) fn first_under_any<'a, T, K: Numbering<T>, P: Test<T> + Keys>(
     table: &'a Table<T, K>,
     hints: &Hints,
@@ -56,8 +56,8 @@ pub(crate) fn first_under_any<'a, T, K: Numbering<T>, P: Test<T> + Keys>(
 }
 
 impl<T, K: Numbering<T> + Keying<T>> Keyed<T, K> {
-    /// The first thing above a number that passes the test, which only things pass that have one of the
-    /// keys that are sought.
+    /// The first thing above a number that passes the test, which only things pass that have one of
+    /// the keys that are sought.
     pub fn first_above<P: Test<T> + Keys>(&self, after: u64, test: &P) -> Option<&T>
         requires { (seed : ℕ) (x : T) → P.is_passed test.now x ≡ true → is_sought (P.sought test.now seed) (K.keys_of seed x) ≡ true }
         ensures found { option_copied result ≡ find (is_next K.number_of (P.is_passed test.now) after) self.now }

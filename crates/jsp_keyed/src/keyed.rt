@@ -54,8 +54,8 @@ impl<T, K: Numbering<T> + Keying<T>> Keyed<T, K> {
         }
     }
 
-    /// Adds a thing whose number is above all that were given, whole or not at all. One whose number
-    /// isn't is answered, and all stays as it was.
+    /// Adds a thing whose number is above all that were given, whole or not at all. One whose
+    /// number isn't is answered, and all stays as it was.
     pub fn push(&mut self, thing: T) -> Result<Option<T>, NoMemory>
     where
         T: Drop,

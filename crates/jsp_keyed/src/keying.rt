@@ -5,7 +5,8 @@ ghost use Rattle.jsp_lease.specs.declared.item.Rank.{Rank as OfRank};
 use crate::NoMemory;
 use jsp_lease::Rank;
 
-/// The keys of a thing, by a seed that clients don't know, and its end. Two keys may be the same number.
+/// The keys of a thing, by a seed that clients don't know, and its end. Two keys may be the same
+/// number.
 pub trait Keying<T> {
     ghost keys_of: { ℕ → T → List ℕ };
 

@@ -55,8 +55,8 @@ impl<T, K: Numbering<T> + Keying<T>> Keyed<T, K> {
         }
     }
 
-    /// Of the things that pass a test and whose end has come, the one that comes first, as an item. Each
-    /// is looked at.
+    /// Of the things that pass a test and whose end has come, the one that comes first, as an item.
+    /// Each is looked at.
     pub fn due_of<P: Test<T>>(&self, time: u64, test: &P) -> Option<Item>
         ensures { result ≡ first_item (over_by time (map (item_of K.number_of K.end_of K.rank_of) (filter (P.is_passed test.now) self.now))) }
     {

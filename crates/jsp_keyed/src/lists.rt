@@ -1,5 +1,5 @@
-//! The lists of what asks for so many values, under the keys of an entry's values. The length of each
-//! is looked up once. Nothing here takes memory.
+//! The lists of what asks for so many values, under the keys of an entry's values. The length of
+//! each is looked up once. Nothing here takes memory.
 ghost use Rattle.std.specs.Prelude.{◌≡◌, ◌<◌, ◌≤◌, ℕ, map, length, filter, slice_index};
 ghost use Rattle.jsp_keys.specs.Keys.{mix};
 ghost use Rattle.jsp_keyed.specs.Several.{length_under, is_longer};

@@ -1,4 +1,5 @@
-//! The first thing that passes a test, and the numbers of all that do, among those that an entry seeks.
+//! The first thing that passes a test, and the numbers of all that do, among those that an entry
+//! seeks.
 ghost use Rattle.std.specs.Prelude.{◌≡◌, ◌<◌, ◌&&◌, ℕ, true, find, option_copied, IfOk, OnOk};
 ghost use Rattle.std.specs.List.{AllByRecursion, list_any};
 ghost use Rattle.jsp_table.specs.Numbers.{contains};
@@ -22,7 +23,8 @@ fn values_of<'a, P: ByEntry>(seed: u64, test: &'a P) -> ValueKeys<'a>
     ValueKeys::of(seed, test.space(), test.entry().fields.as_slice())
 }
 
-/// The first above a number that passes the test, of those that ask for so many of the entry's values.
+/// The first above a number that passes the test, of those that ask for so many of the entry's
+/// values.
 fn first_of_several<'a, T, K: Numbering<T>, P: Test<T> + ByEntry>(
     table: &'a Table<T, K>,
     hints: &Hints,
@@ -75,7 +77,8 @@ fn first_for<'a, T, K: Numbering<T>, P: Test<T> + ByEntry>(
 }
 
 impl<T, K: Numbering<T> + Keying<T>> Keyed<T, K> {
-    /// The first thing above a number that passes the test, which only things pass that the entry seeks.
+    /// The first thing above a number that passes the test, which only things pass that the entry
+    /// seeks.
     pub fn first_matching<P: Test<T> + ByEntry>(&self, after: u64, test: &P) -> Option<&T>
         requires { (seed : ℕ) (x : T) → P.is_passed test.now x ≡ true → seeks seed (P.classes_of test.now) (P.space_of test.now) (P.entry_of test.now) (K.keys_of seed x) ≡ true }
         ensures found { option_copied result ≡ find (is_next K.number_of (P.is_passed test.now) after) self.now }
@@ -144,8 +147,8 @@ fn gather_for<T, K: Numbering<T>, P: Test<T> + ByEntry>(
 }
 
 impl<T, K: Numbering<T> + Keying<T>> Keyed<T, K> {
-    /// Numbers, among which are those of all things that pass the test, which only things pass that the
-    /// entry seeks.
+    /// Numbers, among which are those of all things that pass the test, which only things pass that
+    /// the entry seeks.
     pub fn passing<P: Test<T> + ByEntry>(&self, test: &P) -> Result<Numbers, NoMemory>
         requires { (seed : ℕ) (x : T) → P.is_passed test.now x ≡ true → seeks seed (P.classes_of test.now) (P.space_of test.now) (P.entry_of test.now) (K.keys_of seed x) ≡ true }
         ensures named { IfOk result (λ numbers. AreNamed K.number_of (P.is_passed test.now) numbers self.now) }

@@ -63,7 +63,8 @@ pub(crate) fn forget<T, K: Numbering<T> + Keying<T>>(seed: u64, hints: &mut Hint
     }
 }
 
-/// Takes the thing of a number from its lists, if there was one. The others stay named. Takes no memory.
+/// Takes the thing of a number from its lists, if there was one. The others stay named. Takes no
+/// memory.
 pub(crate) fn forget_gone<T: Drop, K: Numbering<T> + Keying<T>>(
     seed: u64,
     hints: &mut Hints,

@@ -1,5 +1,6 @@
-//! Numbers, among which are those of all things that pass a test. Each thing that is named under a key
-//! that is sought is tested once, where one search after another would test some again and again.
+//! Numbers, among which are those of all things that pass a test. Each thing that is named under a
+//! key that is sought is tested once, where one search after another would test some again and
+//! again.
 ghost use Rattle.std.specs.Prelude.{◌≡◌, ◌<◌, ◌&&◌, ℕ, true, OnOk};
 ghost use Rattle.std.specs.List.{AllByRecursion, list_any};
 ghost use Rattle.jsp_table.specs.Numbers.{contains};

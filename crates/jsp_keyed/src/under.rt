@@ -9,7 +9,8 @@ use crate::{Key, Keyed, Keying};
 use jsp_table::{Numbering, Numbers, Test};
 
 impl<T, K: Numbering<T> + Keying<T>> Keyed<T, K> {
-    /// Numbers, among which are those of all things that have the key: of each kind of which all do.
+    /// Numbers, among which are those of all things that have the key: of each kind of which all
+    /// do.
     pub fn numbers_under<Q: Key>(&self, key: &Q) -> &Numbers
         ensures { (kind : T → Bool) → HaveKey K.keys_of (Q.key_by key.now) kind → AreNamed K.number_of kind result.now self.now }
     {
@@ -34,8 +35,8 @@ impl<T, K: Numbering<T> + Keying<T>> Keyed<T, K> {
         }
     }
 
-    /// The first thing above a number that is named and passes the test. Of a kind of which all are named
-    /// it is the first above the number that passes.
+    /// The first thing above a number that is named and passes the test. Of a kind of which all are
+    /// named it is the first above the number that passes.
     pub fn first_named<P: Test<T>>(&self, numbers: &Numbers, after: u64, test: &P) -> Option<&T>
         ensures found { option_copied result ≡ find (is_hit K.number_of (P.is_passed test.now) numbers.now after) self.now }
         ensures least { (kind : T → Bool) → AreNamed K.number_of kind numbers.now self.now → IsLeast K.number_of (is_next K.number_of (P.is_passed test.now) after) kind self.now (option_copied result) }

@@ -1,5 +1,6 @@
-//! The keys by which an entry seeks the templates that may match it. Those of templates that ask for one value
-//! at most it seeks under that of no class, of each of its values, and of its class and those above that.
+//! The keys by which an entry seeks the templates that may match it. Those of templates that ask
+//! for one value at most it seeks under that of no class, of each of its values, and of its class
+//! and those above that.
 ghost use Rattle.std.specs.Prelude.{◌≡◌, ◌<◌, ◌++◌, ◌∷◌, ℕ, List, length, slice_index};
 ghost use Rattle.jsp_types.specs.declared.class.Class.{Class};
 ghost use Rattle.jsp_types.specs.declared.entry.Entry.{Entry as OfEntry};
@@ -12,7 +13,8 @@ use crate::keys::key_of_class;
 use crate::templates::key_of_any;
 use jsp_types::{Classes, Entry};
 
-/// What things are sought by: an entry at a space, which the template of each thing that passes matches.
+/// What things are sought by: an entry at a space, which the template of each thing that passes
+/// matches.
 pub trait ByEntry {
     ghost classes_of: { Self → List Class };
 

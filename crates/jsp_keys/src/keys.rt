@@ -1,5 +1,5 @@
-//! Keys, by a seed that clients don't know. Two keys may be the same number, by chance of the seed: a list
-//! of hints may name more than it has to.
+//! Keys, by a seed that clients don't know. Two keys may be the same number, by chance of the seed:
+//! a list of hints may name more than it has to.
 ghost use Rattle.std.specs.Prelude.{◌≡◌};
 ghost use Rattle.jsp_keys.specs.Keys.{number_key, space_key, session_key, transaction_key, class_key, field_key, mix_text as text_mixed, mix_value as value_mixed};
 

@@ -1,10 +1,11 @@
-//! The keys of things, by a seed that clients don't know: of numbers, classes and values, of templates, and
-//! of the entries that they may match.
+//! The keys of things, by a seed that clients don't know: of numbers, classes and values, of
+//! templates, and of the entries that they may match.
 //!
-//! A template that asks for several values stands under a key of each, made by how many there are, and under
-//! one of how many there are; what asks for less has one key. So an entry that a template matches has a key
-//! of it, or as many of its keys as it asks for values (`seeks`). Contracts say each key as a number of the
-//! seed and its parts. Two keys may be the same number. Nothing here takes memory.
+//! A template that asks for several values stands under a key of each, made by how many there are,
+//! and under one of how many there are; what asks for less has one key. So an entry that a template
+//! matches has a key of it, or as many of its keys as it asks for values (`seeks`). Contracts say
+//! each key as a number of the seed and its parts. Two keys may be the same number. Nothing here
+//! takes memory.
 #![tactic(auto)]
 
 mod entries;

@@ -1,8 +1,8 @@
 //! How one part after another goes into a key, by a seed that clients don't know.
 //!
-//! A text goes in by words of eight bytes, and the last seven bytes or fewer one by one. How long it is,
-//! and of which kind a value is, goes in before it, so that two keys are the same number by chance of the
-//! seed alone. That is a step for each text and each value.
+//! A text goes in by words of eight bytes, and the last seven bytes or fewer one by one. How long
+//! it is, and of which kind a value is, goes in before it, so that two keys are the same number by
+//! chance of the seed alone. That is a step for each text and each value.
 ghost use Rattle.std.specs.Prelude.{◌≡◌};
 ghost use Rattle.std.specs.Int.{w64, cast_unsigned as bits_of};
 ghost use Rattle.jsp_keys.specs.Keys.{folded_multiply as folded, mix as mixed, mix_all, mix_words as words_mixed, mix_text as text_mixed, mix_value as value_mixed};
@@ -53,8 +53,8 @@ fn mix_words(key: u64, bytes: &[u8]) -> u64
     mix_bytes(mixed, left)
 }
 
-/// How long it is goes in first: otherwise it may have the key of a longer one that goes on in nulls,
-/// or of one that goes on in what is mixed in behind it.
+/// How long it is goes in first: otherwise it may have the key of a longer one that goes on in
+/// nulls, or of one that goes on in what is mixed in behind it.
 pub(crate) fn mix_text(key: u64, text: &str) -> u64
     ensures { result ≡ text_mixed key text.now }
 {

@@ -1,5 +1,6 @@
-//! The keys under which a template is found by the entries that it may match: that it asks for nothing at
-//! all, its class where it asks for no value, the value where it asks for one, and else each of its values.
+//! The keys under which a template is found by the entries that it may match: that it asks for
+//! nothing at all, its class where it asks for no value, the value where it asks for one, and else
+//! each of its values.
 ghost use Rattle.std.specs.Prelude.{◌≡◌, ◌<◌, ℕ, List, length, slice_index, not, ◌||◌, option_copied, [], bytes_eq};
 ghost use Rattle.std.specs.List.{list_any, slice_get};
 ghost use Rattle.jsp_types.specs.Matching.{is_null as has_null};

@@ -12,8 +12,8 @@ use std::marker::Model;
 const KEPT: usize = 32;
 
 /// The keys of an entry's values at a space, as `key_of_field` makes them, in the order of its
-/// fields. Contracts see the list of them. The first 32 are kept once they are made, in the 296 bytes
-/// of this struct; any other is made whenever it is asked for.
+/// fields. Contracts see the list of them. The first 32 are kept once they are made, in the 296
+/// bytes of this struct; any other is made whenever it is asked for.
 #[derive(Drop)]
 pub struct ValueKeys<'a> {
     seed: u64,

@@ -102,10 +102,10 @@ shorter h n m rows after q p l e t sub tally public heard k c =
         go true e ih = refl
         go false e ih = ih e
 
-abbrev Rows : ℕ → List Row → List Row → Type 0
-Rows n rows after = (t : Option ℕ) (k : ℕ) → k < n → Each (Public t k) rows → Each (Public t k) after
+abbrev StayPublic : ℕ → List Row → List Row → Type 0
+StayPublic n rows after = (t : Option ℕ) (k : ℕ) → k < n → Each (Public t k) rows → Each (Public t k) after
 
-same_heard : (h : ℕ → List ℕ) (n m : ℕ) (rows after : List Row) (q : Registration) → n ≤ m → Rows n rows after → Heard h n rows q → Heard h m after q
+same_heard : (h : ℕ → List ℕ) (n m : ℕ) (rows after : List Row) (q : Registration) → n ≤ m → StayPublic n rows after → Heard h n rows q → Heard h m after q
 same_heard h n m rows after q l public k = shorter h n m rows after q q l refl refl (λ k c. c) (λ k. omega arith) public k
 
 heard_by : (h : ℕ → List ℕ) (st after : State) → AllHeard h st → st.next_number ≤ after.next_number
@@ -113,7 +113,7 @@ heard_by : (h : ℕ → List ℕ) (st after : State) → AllHeard h st → st.ne
 heard_by h st after k l f = record { undrawn = λ m g. k.undrawn m (omega arith); heard = f k.heard }
 
 -- the registrations stay
-all_stay : (h : ℕ → List ℕ) (st : State) (n : ℕ) (rows : List Row) → st.next_number ≤ n → Rows st.next_number st.rows rows → Each (Heard h st.next_number st.rows) st.registrations → Each (Heard h n rows) st.registrations
+all_stay : (h : ℕ → List ℕ) (st : State) (n : ℕ) (rows : List Row) → st.next_number ≤ n → StayPublic st.next_number st.rows rows → Each (Heard h st.next_number st.rows) st.registrations → Each (Heard h n rows) st.registrations
 all_stay h st n rows l public hs = each_weaker (Heard h st.next_number st.rows) (Heard h n rows) (λ q. same_heard h st.next_number n st.rows rows q l public) st.registrations hs
 
 heard_change : {c : Kind} {st after : State} (h : ℕ → List ℕ) → c.owing ≡ false → c.committed ≡ None → Change c st after → AllHeard h st → AllHeard h after
@@ -159,7 +159,7 @@ listed_pushed (x ∷ h) owed m k d c = go (x == k) c (listed_pushed h owed m k d
     go true e ih = refl
     go false e ih = ih e
 
-heard_told : (h : ℕ → List ℕ) (n m : ℕ) (rows after : List Row) (q : Registration) (r : Row) → n ≤ m → r.number < m → contains (listed h q) r.number ≡ false → Rows n rows after → Each (Public q.transaction r.number) after
+heard_told : (h : ℕ → List ℕ) (n m : ℕ) (rows after : List Row) (q : Registration) (r : Row) → n ≤ m → r.number < m → contains (listed h q) r.number ≡ false → StayPublic n rows after → Each (Public q.transaction r.number) after
     → Heard h n rows q → Heard h m after (owed_to r q)
 heard_told h n m rows after q r l b fresh public mine heard k c = go (r.number == k) refl
   where
@@ -196,7 +196,7 @@ heard_added h b r e below k = heard_by h b (add_row b r) k (omega arith) (λ hs.
     n : ℕ
     n = b.next_number
 
-    old : Rows n b.rows (b.rows ++ r ∷ [])
+    old : StayPublic n b.rows (b.rows ++ r ∷ [])
     old t k l p = each_append (Public t k) b.rows (r ∷ []) p (λ i. absurd (omega arith), tt)
 
     fresh : (q : Registration) → Heard h n b.rows q → contains (listed h q) r.number ≡ false

@@ -25,8 +25,8 @@ pub struct Item {
     pub number: u64,
 }
 
-/// Whether the first item comes before the second: by end, then rank, then number. The order is this
-/// profile's own.
+/// Whether the first item comes before the second: by end, then rank, then number. The order is
+/// this profile's own.
 pub fn is_before(a: Item, b: Item) -> bool
     ensures { result ≡ comes_before a b }
 {

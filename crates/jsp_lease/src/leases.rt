@@ -17,8 +17,8 @@ use std::marker::Model;
 /// goes whatever its rank is; whether its number may be used so is for the caller to know.
 ///
 /// Each number keeps its place in a table once its item has gone, so that a place is found by a
-/// binary search. Where the table is full, the next item moves those that are left to a new one, with
-/// at least twice as many places as there are items, and at least 8 more.
+/// binary search. Where the table is full, the next item moves those that are left to a new one,
+/// with at least twice as many places as there are items, and at least 8 more.
 #[derive(Drop)]
 pub struct Leases {
     numbers: Vec<u64>,
@@ -90,8 +90,8 @@ impl Leases {
     }
 
     /// Makes room for so many items, so that the calls that add them can't fail. Where the room is
-    /// there it takes no memory. `NoMemory`, which comes in any case where room for 2^48 items or more is wanted,
-    /// leaves all as it was.
+    /// there it takes no memory. `NoMemory`, which comes in any case where room for 2^48 items or
+    /// more is wanted, leaves all as it was.
     pub fn reserve(&mut self, count: usize) -> Result<(), NoMemory>
         ensures ok { IfOk result (λ _. HasRoomFor self.old count self.new) }
         ensures err { OnErr result (self.new ≡ self.old) }
@@ -124,8 +124,8 @@ impl Leases {
         })
     }
 
-    /// The item of this number ends then, which may be any time. Where there is none, all stays as it
-    /// was. It takes no memory.
+    /// The item of this number ends then, which may be any time. Where there is none, all stays as
+    /// it was. It takes no memory.
     pub fn set_end(&mut self, number: u64, end: u64)
         ensures { self.new ≡ with_items self.old (ending_at number end self.old.items) }
     {

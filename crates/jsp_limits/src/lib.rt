@@ -1,6 +1,7 @@
 //! The limits of the abstract machine. The crate computes nothing: it is here to state that each
-//! legal step keeps them, and to have that proved. So a program that makes the machine's steps needs
-//! no clause about limits at each function: whatever stands for the next state is within them.
+//! legal step keeps them, and to have that proved. So a program that makes the machine's steps
+//! needs no clause about limits at each function: whatever stands for the next state is within
+//! them.
 //!
 //! - `at_first`: the state before the first step is within its limits.
 //! - `each_step`: from a state within its limits each legal step leads to such a state.

@@ -13,7 +13,7 @@ use Rattle.jsp_drive.specs.declared.ended.Ended.{Ended}
 use Rattle.jsp_drive.specs.declared.ended.Ended.TheVariants.{End, Failed, Bound, Closing, Cut, Stopped}
 use Rattle.jsp_line.specs.Bytes.{IsTranscript}
 use Rattle.jsp_line.specs.Reading.{Counts, is_closing, is_acted, Reads}
-use Rattle.jsp_line.specs.Turns.{GoesOn, ReadsOn, ReadsPiece, ActsOne, ActsMore, ActsAll, FaultsOn}
+use Rattle.jsp_line.specs.Turns.{StaysOpen, ReadsOn, ReadsPiece, ActsOne, ActsMore, ActsAll, FaultsOn}
 
 -- ---- the line
 
@@ -36,7 +36,7 @@ gave_stopped s stream asked old new out h = record {
 
 -- before the first read
 pub goes_start : (s : ℕ) (left : Option (List ℕ)) (transcript : Transcript) (line : Unheard) (n : ℕ)
-    → IsTranscript transcript [] → (transcript ≡ NoMemory → ⊥) → Gave s [] [] line → GoesOn s left left transcript line n n
+    → IsTranscript transcript [] → (transcript ≡ NoMemory → ⊥) → Gave s [] [] line → StaysOpen s left left transcript line n n
 goes_start s left transcript line n kept room gave = record {
   read = [];
   consumed = Consumes-nil left;
@@ -59,7 +59,7 @@ room_on old new ended room piece lost = room_here old ended room (piece lost)
 -- the line ends at a read
 pub ends_reading : (s : ℕ) (start now left : Option (List ℕ)) (old new : Transcript) (line line' : Unheard) (ended : Ended) (n m : ℕ)
     → ReadsPiece now left old new line line' (Some ended)
-    → GoesOn s start now old line n m
+    → StaysOpen s start now old line n m
     → Reads s start left new ended n m
 ends_reading s start now left old new line line' End n m piece on =
     let none = piece.ends.0 in
@@ -125,7 +125,7 @@ pub goes_turn : (s : ℕ) (start now left : Option (List ℕ)) (old mid new : Tr
     → ((stream : List ℕ) (asked : List Step) → Gave s stream asked fed → ActsAll ended s stream asked line' m k)
     → ((all : List ℕ) → IsTranscript mid all → IsTranscript new all)
     → (new ≡ NoMemory → mid ≡ NoMemory)
-    → GoesOn s start now old line n m
+    → StaysOpen s start now old line n m
     → ReadsOn s start left new line' ended n k
 goes_turn s start now left old mid new line fed line' None n m k piece acts kept room on =
     let read = on.read ++ piece.piece in
@@ -158,7 +158,7 @@ goes_turn s start now left old mid new line fed line' (Some ended) n m k piece a
     }
 
 -- no turn is left
-pub ends_bound : (s : ℕ) (start left : Option (List ℕ)) (transcript : Transcript) (line : Unheard) (n m : ℕ) → GoesOn s start left transcript line n m → Reads s start left transcript Bound n m
+pub ends_bound : (s : ℕ) (start left : Option (List ℕ)) (transcript : Transcript) (line : Unheard) (n m : ℕ) → StaysOpen s start left transcript line n m → Reads s start left transcript Bound n m
 ends_bound s start left transcript line n m on = record {
   read = on.read;
   consumed = on.consumed;

@@ -12,7 +12,7 @@ use Rattle.jsp_line.specs.Bytes.{IsTranscript}
 use Rattle.jsp_line.specs.Reading.{Counts, EndsClosing, is_acted, Faults, Reads}
 
 -- the line goes on: all that it gives for the bytes read was acted
-pub record GoesOn (s : ℕ) (before now : Option (List ℕ)) (transcript : Transcript) (line : Unheard) (n m : ℕ) : Type 0 where
+pub record StaysOpen (s : ℕ) (before now : Option (List ℕ)) (transcript : Transcript) (line : Unheard) (n m : ℕ) : Type 0 where
   pub read : List ℕ
   pub consumed : Consumes before now read
   pub kept : IsTranscript transcript read
@@ -23,7 +23,7 @@ pub record GoesOn (s : ℕ) (before now : Option (List ℕ)) (transcript : Trans
   pub all : (too_long : Bool) × GaveAll s read asked too_long
 
 abbrev pub ReadsOn : ℕ → Option (List ℕ) → Option (List ℕ) → Transcript → Unheard → Option Ended → ℕ → ℕ → Type 0
-ReadsOn s before now transcript line None n m = GoesOn s before now transcript line n m
+ReadsOn s before now transcript line None n m = StaysOpen s before now transcript line n m
 ReadsOn s before now transcript line (Some ended) n m = Reads s before now transcript ended n m
 
 -- a read that gives no piece to act

@@ -1,8 +1,8 @@
 //! Why a line ended, as whoever runs a server is told.
 use crate::answer_writer::Health;
-use crate::line::LineDone;
 use crate::locked::Left;
 use crate::notes::ShutFor;
+use crate::serve_line::LineDone;
 use jsp_drive::Ended;
 use jsp_model::Why;
 use std::io::{Read, Write};

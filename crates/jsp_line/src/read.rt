@@ -9,7 +9,7 @@ ghost use Rattle.jsp_line.specs.declared.transcript.Transcript.TheVariants.{NoMe
 ghost use Rattle.jsp_line.specs.Bytes.{saturated, IsTranscript};
 ghost use Rattle.jsp_line.specs.Seats.{Asks};
 ghost use Rattle.jsp_line.specs.Reading.{is_closing, is_acted, Faults, Reads};
-ghost use Rattle.jsp_line.specs.Turns.{ActsOne, ActsAll, ReadsPiece, FaultsOn, GoesOn, ReadsOn};
+ghost use Rattle.jsp_line.specs.Turns.{ActsOne, ActsAll, ReadsPiece, FaultsOn, StaysOpen, ReadsOn};
 
 use crate::answer_writer::{Acted, AnswerWriter, Start};
 use crate::counted::Counted;
@@ -241,7 +241,7 @@ impl<H: InParts, A: Ledger, O: Ledger, G: Gate, C: Clock, T: Wait + time::Clock>
     ) -> Option<Ended>
         ensures session { seat.new.session ≡ seat.old.session }
         ensures reads { (start : Option (List ℕ)) (n : ℕ)
-            → GoesOn seat.old.session start (R.remaining reader.old.inner) transcript.old line.old n seat.old.count
+            → StaysOpen seat.old.session start (R.remaining reader.old.inner) transcript.old line.old n seat.old.count
             → ReadsOn seat.old.session start (R.remaining reader.new.inner) transcript.new line.new result n seat.new.count }
         ensures faults { FaultsOn result reader.old.failures reader.new.failures }
         ensures counted { reader.new.reads ≡ saturated reader.old.reads }
@@ -269,7 +269,7 @@ impl<H: InParts, A: Ledger, O: Ledger, G: Gate, C: Clock, T: Wait + time::Clock>
     ) -> Ended
         ensures session { seat.new.session ≡ seat.old.session }
         ensures reads { (start : Option (List ℕ)) (n : ℕ)
-            → GoesOn seat.old.session start (R.remaining reader.old.inner) transcript.old line.old n seat.old.count
+            → StaysOpen seat.old.session start (R.remaining reader.old.inner) transcript.old line.old n seat.old.count
             → Reads seat.old.session start (R.remaining reader.new.inner) transcript.new result n seat.new.count }
         ensures faults { Faults result reader.old.failures reader.new.failures }
         ensures bound { result ≡ Bound → bound ≤ reader.new.reads }

@@ -1,4 +1,5 @@
-//! A list that finds what it is asked for, or looks at thing after thing. Contracts see the plain list.
+//! A list that finds what it is asked for, or looks at thing after thing. Contracts see the plain
+//! list.
 ghost use Rattle.std.specs.Prelude.{◌≡◌, ◌==◌, ◌&&◌, ◌++◌, ◌∷◌, ℕ, [], true, not, nat_le, if◌then◌else◌, map, filter, find, length, option_copied, IfOk, OnOk, OnErr, MatchOption};
 ghost use Rattle.std.specs.List.{list_any};
 ghost use Rattle.jsp_lease.specs.Due.{first_item, over_by};
@@ -23,24 +24,24 @@ use std::marker::Model;
 
 /// Things in a list, found by number, by key and by end. Contracts see the list of them.
 ///
-/// They are found by hints where their numbers rise, as those of the machine do. Where one comes whose
-/// number doesn't, each thing is looked at from then on.
+/// They are found by hints where their numbers rise, as those of the machine do. Where one comes
+/// whose number doesn't, each thing is looked at from then on.
 #[derive(Drop)]
 pub struct IndexedList<T, K: Numbering<T> + Keying<T>> {
     alloc: Global,
-    kept: Kept<T, K>,
+    kept: Storage<T, K>,
 }
 
 /// How the things are kept.
 #[derive(Drop)]
-pub(crate) enum Kept<T, K: Numbering<T> + Keying<T>> {
+pub(crate) enum Storage<T, K: Numbering<T> + Keying<T>> {
     Scanned(Vec<T>),
     Keyed(Keyed<T, K>),
 }
 
 impl<T, K: Numbering<T> + Keying<T>> Model for IndexedList<T, K> {
     ghost use Rattle.std.specs.Prelude.{List};
-    ghost use Rattle.jsp_list.specs.Kept.{things_in};
+    ghost use Rattle.jsp_list.specs.Storage.{things_in};
 
     ghost Value = { List T };
 
@@ -54,7 +55,7 @@ impl<T: Drop, K: Numbering<T> + Keying<T>> IndexedList<T, K> {
     {
         IndexedList {
             alloc,
-            kept: Kept::Scanned(things.into_vec()),
+            kept: Storage::Scanned(things.into_vec()),
         }
     }
 
@@ -64,7 +65,7 @@ impl<T: Drop, K: Numbering<T> + Keying<T>> IndexedList<T, K> {
     {
         IndexedList {
             alloc,
-            kept: Kept::Keyed(Keyed::new(alloc, seed)),
+            kept: Storage::Keyed(Keyed::new(alloc, seed)),
         }
     }
 
@@ -86,8 +87,8 @@ impl<T: Drop, K: Numbering<T> + Keying<T>> IndexedList<T, K> {
         ensures { IfOk result (λ c. c ≡ self.now) }
     {
         match &self.kept {
-            Kept::Scanned(things) => copies::<T, K>(self.alloc, things),
-            Kept::Keyed(things) => things.to_items(self.alloc),
+            Storage::Scanned(things) => copies::<T, K>(self.alloc, things),
+            Storage::Keyed(things) => things.to_items(self.alloc),
         }
     }
 
@@ -110,11 +111,11 @@ impl<T: Drop, K: Numbering<T> + Keying<T>> IndexedList<T, K> {
         ensures err { OnErr result (self.new ≡ self.old) }
     {
         match &mut self.kept {
-            Kept::Scanned(things) => {
+            Storage::Scanned(things) => {
                 things.push(thing)?;
                 Ok(None)
             }
-            Kept::Keyed(things) => things.push(thing),
+            Storage::Keyed(things) => things.push(thing),
         }
     }
 
@@ -125,7 +126,7 @@ impl<T: Drop, K: Numbering<T> + Keying<T>> IndexedList<T, K> {
     {
         let mut plain = self.to_items()?.into_vec();
         plain.push(thing)?;
-        self.kept = Kept::Scanned(plain);
+        self.kept = Storage::Scanned(plain);
         Ok(())
     }
 
@@ -136,49 +137,51 @@ impl<T: Drop, K: Numbering<T> + Keying<T>> IndexedList<T, K> {
         ensures { self.new ≡ without K.number_of number self.old }
     {
         match &mut self.kept {
-            Kept::Scanned(things) => drop_passing(things, &HasNumber::<K>::of(number)),
-            Kept::Keyed(things) => things.remove(number),
+            Storage::Scanned(things) => drop_passing(things, &HasNumber::<K>::of(number)),
+            Storage::Keyed(things) => things.remove(number),
         }
     }
 
-    /// Those that pass the test go, which only things pass that have one of the keys that are sought.
+    /// Those that pass the test go, which only things pass that have one of the keys that are
+    /// sought.
     pub fn remove_all<P: Test<T> + Keys>(&mut self, test: &P)
         requires { (seed : ℕ) (x : T) → P.is_passed test.now x ≡ true → is_sought (P.sought test.now seed) (K.keys_of seed x) ≡ true }
         ensures { self.new ≡ filter (λ x. not (P.is_passed test.now x)) self.old }
     {
         match &mut self.kept {
-            Kept::Scanned(things) => drop_passing(things, test),
-            Kept::Keyed(things) => things.remove_all(test),
+            Storage::Scanned(things) => drop_passing(things, test),
+            Storage::Keyed(things) => things.remove_all(test),
         }
     }
 
     // ---- change in place
 
-    /// Changes the thing of this number, which keeps its number, its keys and its end. Takes no memory.
+    /// Changes the thing of this number, which keeps its number, its keys and its end. Takes no
+    /// memory.
     pub fn change<C: Change<T>>(&mut self, number: u64, change: &C)
         requires { (x : T) → HasSameKeys K.number_of K.keys_of K.end_of x (C.changed change.now x) }
         ensures { self.new ≡ map (λ x. if K.number_of x == number then C.changed change.now x else x) self.old }
     {
         match &mut self.kept {
-            Kept::Scanned(things) => change_passing(things, &HasNumber::<K>::of(number), change),
-            Kept::Keyed(things) => things.change(number, change),
+            Storage::Scanned(things) => change_passing(things, &HasNumber::<K>::of(number), change),
+            Storage::Keyed(things) => things.change(number, change),
         }
     }
 
-    /// The thing of this number ends then: the change gives it that end, and keeps its number and its
-    /// keys. Takes no memory.
+    /// The thing of this number ends then: the change gives it that end, and keeps its number and
+    /// its keys. Takes no memory.
     pub fn set_end<C: Change<T>>(&mut self, number: u64, end: u64, change: &C)
         requires { (x : T) → HasOnlyNewEnd K.number_of K.keys_of K.end_of end x (C.changed change.now x) }
         ensures { self.new ≡ map (λ x. if K.number_of x == number then C.changed change.now x else x) self.old }
     {
         match &mut self.kept {
-            Kept::Scanned(things) => change_passing(things, &HasNumber::<K>::of(number), change),
-            Kept::Keyed(things) => things.set_end(number, end, change),
+            Storage::Scanned(things) => change_passing(things, &HasNumber::<K>::of(number), change),
+            Storage::Keyed(things) => things.set_end(number, end, change),
         }
     }
 
-    /// Changes the thing of this number, which keeps its number, its keys and its end, whole or not at
-    /// all. The other change takes this one back.
+    /// Changes the thing of this number, which keeps its number, its keys and its end, whole or not
+    /// at all. The other change takes this one back.
     pub fn try_change<C: TryChange<T>, U: Change<T>>(
         &mut self,
         number: u64,
@@ -191,10 +194,10 @@ impl<T: Drop, K: Numbering<T> + Keying<T>> IndexedList<T, K> {
         ensures err { OnErr result (self.new ≡ self.old) }
     {
         match &mut self.kept {
-            Kept::Scanned(things) => {
+            Storage::Scanned(things) => {
                 try_change_passing(things, &HasNumber::<K>::of(number), change, undo)
             }
-            Kept::Keyed(things) => things.try_change(number, change),
+            Storage::Keyed(things) => things.try_change(number, change),
         }
     }
 
@@ -205,8 +208,8 @@ impl<T: Drop, K: Numbering<T> + Keying<T>> IndexedList<T, K> {
         ensures { result ≡ nat_le count (length self.now) }
     {
         match &self.kept {
-            Kept::Scanned(things) => count <= things.len(),
-            Kept::Keyed(things) => things.has_at_least(count),
+            Storage::Scanned(things) => count <= things.len(),
+            Storage::Keyed(things) => things.has_at_least(count),
         }
     }
 
@@ -215,8 +218,8 @@ impl<T: Drop, K: Numbering<T> + Keying<T>> IndexedList<T, K> {
         ensures { result ≡ length self.now }
     {
         match &self.kept {
-            Kept::Scanned(things) => things.len(),
-            Kept::Keyed(things) => count_filled(things.places()),
+            Storage::Scanned(things) => things.len(),
+            Storage::Keyed(things) => count_filled(things.places()),
         }
     }
 
@@ -226,8 +229,8 @@ impl<T: Drop, K: Numbering<T> + Keying<T>> IndexedList<T, K> {
         ensures { result ≡ length (filter (P.is_passed test.now) self.now) }
     {
         match &self.kept {
-            Kept::Scanned(things) => count_passing(things, test),
-            Kept::Keyed(things) => things.count(test),
+            Storage::Scanned(things) => count_passing(things, test),
+            Storage::Keyed(things) => things.count(test),
         }
     }
 
@@ -236,8 +239,8 @@ impl<T: Drop, K: Numbering<T> + Keying<T>> IndexedList<T, K> {
         ensures { option_copied result ≡ numbered K.number_of number self.now }
     {
         match &self.kept {
-            Kept::Scanned(things) => first_passing(things, &HasNumber::<K>::of(number)),
-            Kept::Keyed(things) => things.get(number),
+            Storage::Scanned(things) => first_passing(things, &HasNumber::<K>::of(number)),
+            Storage::Keyed(things) => things.get(number),
         }
     }
 
@@ -246,8 +249,8 @@ impl<T: Drop, K: Numbering<T> + Keying<T>> IndexedList<T, K> {
         ensures { result ≡ list_any (λ x. K.number_of x == number && P.is_passed test.now x) self.now }
     {
         match &self.kept {
-            Kept::Scanned(things) => any_passes(things, &NumberedAnd::<K, P>::of(number, test)),
-            Kept::Keyed(things) => things.any_of(number, test),
+            Storage::Scanned(things) => any_passes(things, &NumberedAnd::<K, P>::of(number, test)),
+            Storage::Keyed(things) => things.any_of(number, test),
         }
     }
 
@@ -256,8 +259,11 @@ impl<T: Drop, K: Numbering<T> + Keying<T>> IndexedList<T, K> {
         ensures { option_copied result ≡ find (λ x. K.number_of x == number && P.is_passed test.now x) self.now }
     {
         match &self.kept {
-            Kept::Scanned(things) => first_passing(things, &NumberedAnd::<K, P>::of(number, test)),
-            Kept::Keyed(things) => {
+            Storage::Scanned(things) => first_passing(
+                things,
+                &NumberedAnd::<K, P>::of(number, test),
+            ),
+            Storage::Keyed(things) => {
                 // Which says that the numbers rise.
                 let _ = things.places();
                 one_passing(things.get(number), test)
@@ -270,8 +276,8 @@ impl<T: Drop, K: Numbering<T> + Keying<T>> IndexedList<T, K> {
         ensures { result ≡ list_any (P.is_passed test.now) self.now }
     {
         match &self.kept {
-            Kept::Scanned(things) => any_passes(things, test),
-            Kept::Keyed(things) => things.first(test).is_some(),
+            Storage::Scanned(things) => any_passes(things, test),
+            Storage::Keyed(things) => things.first(test).is_some(),
         }
     }
 
@@ -280,8 +286,8 @@ impl<T: Drop, K: Numbering<T> + Keying<T>> IndexedList<T, K> {
         ensures { result ≡ first_item (over_by time (map (item_of K.number_of K.end_of K.rank_of) self.now)) }
     {
         match &self.kept {
-            Kept::Scanned(things) => first_over::<T, K, Any>(things, time, &Any {}),
-            Kept::Keyed(things) => things.due(time),
+            Storage::Scanned(things) => first_over::<T, K, Any>(things, time, &Any {}),
+            Storage::Keyed(things) => things.due(time),
         }
     }
 
@@ -290,8 +296,8 @@ impl<T: Drop, K: Numbering<T> + Keying<T>> IndexedList<T, K> {
         ensures { result ≡ first_item (over_by time (map (item_of K.number_of K.end_of K.rank_of) (filter (P.is_passed test.now) self.now))) }
     {
         match &self.kept {
-            Kept::Scanned(things) => first_over::<T, K, P>(things, time, test),
-            Kept::Keyed(things) => things.due_of(time, test),
+            Storage::Scanned(things) => first_over::<T, K, P>(things, time, test),
+            Storage::Keyed(things) => things.due_of(time, test),
         }
     }
 
@@ -307,10 +313,10 @@ impl<T: Drop, K: Numbering<T> + Keying<T>> IndexedList<T, K> {
         ensures { IfOk result (λ v. v.items ≡ map (R.value_of reading.now) (filter (λ x. K.number_of x == number) self.now)) }
     {
         match &self.kept {
-            Kept::Scanned(things) => {
+            Storage::Scanned(things) => {
                 read_passing(alloc, things, &HasNumber::<K>::of(number), reading)
             }
-            Kept::Keyed(things) => {
+            Storage::Keyed(things) => {
                 // Which says that the numbers rise.
                 let _ = things.places();
                 read_one(alloc, things.get(number), reading)

@@ -161,15 +161,15 @@ abbrev pub next_turn : State → Option Settled
 next_turn st = option_map answer_to (settle_step st)
 
 -- What a settle turn answers: the step that it made; or that no transaction votes, and what is quiet now.
-abbrev pub Answers : State → State → Settled → Type 0
-Answers old new settled.Voted = (x : ℕ) × (space : ℕ) × (settle_step old ≡ Some (step.Vote x space))
-Answers old new settled.Decided = (x : ℕ) × (commits : Bool) × (settle_step old ≡ Some (step.Decide x commits))
-Answers old new settled.Quieted = (settle_step old ≡ None) × (p : ℕ) × (first_unquiet old ≡ Some p) × IsTrue (is_quiet new p)
-Answers old new settled.Idle = (settle_step old ≡ None) × AllQuiet new
+abbrev pub AnswersTurn : State → State → Settled → Type 0
+AnswersTurn old new settled.Voted = (x : ℕ) × (space : ℕ) × (settle_step old ≡ Some (step.Vote x space))
+AnswersTurn old new settled.Decided = (x : ℕ) × (commits : Bool) × (settle_step old ≡ Some (step.Decide x commits))
+AnswersTurn old new settled.Quieted = (settle_step old ≡ None) × (p : ℕ) × (first_unquiet old ≡ Some p) × IsTrue (is_quiet new p)
+AnswersTurn old new settled.Idle = (settle_step old ≡ None) × AllQuiet new
 
 -- a turn that a full log stopped where no transaction votes owes the first space that wasn't quiet
 abbrev pub AnswersOf : State → State → List ℕ → Result Settled Stopped → Type 0
-AnswersOf old new left (Ok s) = Answers old new s
+AnswersOf old new left (Ok s) = AnswersTurn old new s
 AnswersOf old new left (Err e) = e.why ≡ why.EraFull → settle_step old ≡ None → Covers left (option_to_list (first_unquiet old))
 
 -- what a settle turn does

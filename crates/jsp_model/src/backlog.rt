@@ -4,8 +4,8 @@ ghost use Rattle.jsp_model.specs.Outboxes.{outbox_of};
 
 use crate::House;
 
-/// A house that counts what stands in it: the answers that wait for a session, which may be too many for
-/// one whose client reads none, the transactions, and what each space has.
+/// A house that counts what stands in it: the answers that wait for a session, which may be too
+/// many for one whose client reads none, the transactions, and what each space has.
 pub trait Backlog: House {
     /// How many answers wait for a session.
     fn waiting(&self, session: u64) -> u64
@@ -23,8 +23,9 @@ pub trait Backlog: House {
         ensures registrations { result.registrations ≡ length (filter (λ r. r.space == space) (Self.view self.now).registrations) }
         ensures match_sets { result.match_sets ≡ length (filter (λ m. m.space == space) (Self.view self.now).sets) };
 
-    /// A session that was told something since it was named here, while there is one, so that its line is
-    /// woken. More may be named, and one that has no answers waiting by now. Nothing else changes.
+    /// A session that was told something since it was named here, while there is one, so that its
+    /// line is woken. More may be named, and one that has no answers waiting by now. Nothing else
+    /// changes.
     fn next_told(&mut self) -> Option<u64>
         ensures view { Self.view self.new ≡ Self.view self.old }
         ensures debt { Self.debt self.new ≡ Self.debt self.old }

@@ -91,8 +91,8 @@ pub enum Settled {
 /// What keeps a state of the abstract spaces, and makes its steps.
 ///
 /// Each call adds the steps that it made to a log. They are a run from the state before the call to
-/// the state after it, also where the call was stopped. Each step's growths are made before it, so a
-/// step is made whole or not at all. If the log had a spare place for each open session before a
+/// the state after it, also where the call was stopped. Each step's growths are made before it, so
+/// a step is made whole or not at all. If the log had a spare place for each open session before a
 /// call, it has one for each after it.
 pub trait House: Drop {
     /// The state that it stands for.
@@ -104,9 +104,9 @@ pub trait House: Drop {
     /// The length up to which calls may fill the log, if there is one.
     ghost bound_of: { Self → Option ℕ };
 
-    /// Makes what an earlier call left, what is due, and what the spaces owe that the input's own step
-    /// touches, without that step. All that it touches stays owed, so that the act which follows tells of
-    /// it too.
+    /// Makes what an earlier call left, what is due, and what the spaces owe that the input's own
+    /// step touches, without that step. All that it touches stays owed, so that the act which
+    /// follows tells of it too.
     fn make_ready(&mut self, input: &Input, log: &mut Vec<Step>) -> Result<(), Why>
         ensures goes { Goes (view self.old) (view self.new) (debt self.old) (debt self.new) log.old.items log.new.items }
         ensures ready { OnOk result (IsReady (view self.new) (debt self.new) input.now) }
@@ -115,8 +115,9 @@ pub trait House: Drop {
         ensures bound { KeepsBound (bound_of self.old) (bound_of self.new) (vec_len log.old) (vec_len log.new) };
 
     /// Makes the input's own step, once, and then those that nobody has to ask for, until nothing
-    /// is due and every touched space is quiet. What an earlier call left is finished first. Where the
-    /// house was made ready for the input, the log has the place for its step, if it had one at the call.
+    /// is due and every touched space is quiet. What an earlier call left is finished first. Where
+    /// the house was made ready for the input, the log has the place for its step, if it had one at
+    /// the call.
     fn act(&mut self, input: Input, log: &mut Vec<Step>) -> Result<(), Stopped>
         requires { IsTrue (is_input input) }
         ensures acts { Acts (view self.old) (view self.new) (debt self.old) (debt self.new) log.old.items log.new.items input result }
@@ -127,8 +128,8 @@ pub trait House: Drop {
         ensures room { KeepsRoom (view self.old) (view self.new) (vec_capacity log.old - vec_len log.old) (vec_capacity log.new - vec_len log.new) }
         ensures bound { KeepsBound (bound_of self.old) (bound_of self.new) (vec_len log.old) (vec_len log.new) };
 
-    /// The same of a house that was made ready for the input: what was found quiet then isn't looked at
-    /// again.
+    /// The same of a house that was made ready for the input: what was found quiet then isn't
+    /// looked at again.
     fn act_ready(&mut self, input: Input, log: &mut Vec<Step>) -> Result<(), Stopped>
         requires input { IsTrue (is_input input) }
         requires ready { IsReady (view self.old) (debt self.old) input }

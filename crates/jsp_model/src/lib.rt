@@ -3,11 +3,11 @@
 //! A house is a state machine. `State` is plain lists; `Step` has every free choice in it; the
 //! definitions in `specs/` say which steps are legal in a state (`Steps`), why a request is refused
 //! (`Refusals`), what a step changes (`Changes`) and says (`Answers`), what is due (`Due`), what a
-//! step touches and when a space is quiet (`Touches`, `Quiet`). A run is a list of steps, each legal
-//! where it stands (`Runs`). `House` is the contract of whatever keeps such a state (`specs/House`),
-//! and `Backlog` of one that counts what stands in it. `Image` is a state with the limits of the
-//! profile in its type, `Config` the names of the spaces.
-//! docs/SPECIFICATION.md tells the machine in plain words.
+//! step touches and when a space is quiet (`Touches`, `Quiet`). A run is a list of steps, each
+//! legal where it stands (`Runs`). `House` is the contract of whatever keeps such a state
+//! (`specs/House`), and `Backlog` of one that counts what stands in it. `Image` is a state with the
+//! limits of the profile in its type, `Config` the names of the spaces. docs/SPECIFICATION.md tells
+//! the machine in plain words.
 #![tactic(auto)]
 
 mod backlog;

@@ -1,4 +1,5 @@
-//! The limits of the spaces (this profile's own). The definitions cite these numbers, and so does all code.
+//! The limits of the spaces (this profile's own). The definitions cite these numbers, and so does
+//! all code.
 
 /// The most spaces.
 pub const MOST_SPACES: usize = 64;
@@ -18,7 +19,8 @@ pub const MOST_SETS: usize = 1_024;
 /// The most requests of a session that wait, with the commits that await their decision.
 pub const MOST_WAITING: usize = 64;
 
-/// The last number that is drawn for an entry, a registration, a transaction, a match set or a request that waits.
+/// The last number that is drawn for an entry, a registration, a transaction, a match set or a
+/// request that waits.
 pub const LAST_NUMBER: u64 = 1 << 62;
 
 /// The latest time, in milliseconds. A later reading of the clock counts as this one.

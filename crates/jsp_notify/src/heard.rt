@@ -10,10 +10,10 @@ ghost use Rattle.jsp_model.specs.Lookup.{update, is_caller as calls};
 ghost use Rattle.jsp_notify.specs.Owing.{owed as with_owed, owed_within, forgiven};
 ghost use Rattle.jsp_notify.specs.Registered.{registration_end, registration_ending, told_once};
 
-use crate::asking::{At, OfSession, Under};
 use crate::finding::spaces_of;
 use crate::hinted::HintedRegistrations;
 use crate::owing::{Range, forgive_each, owe_each, owe_each_within};
+use crate::registration_keys::{At, OfSession, Under};
 use crate::scanned::{
     any_numbered, copies_of, count_at, drop_at, drop_numbered, drop_of, drop_under, extend_each,
     find_numbered, first_over, first_passing, first_that_is_owed, spaces_among, tell_each,
@@ -29,12 +29,12 @@ use std::marker::Model;
 #[derive(Drop)]
 pub struct Heard {
     alloc: Global,
-    kept: Kept,
+    kept: Storage,
 }
 
 /// How they are kept.
 #[derive(Drop)]
-pub(crate) enum Kept {
+pub(crate) enum Storage {
     Scanned(Vec<Registration>),
     Hinted(HintedRegistrations),
 }
@@ -56,7 +56,7 @@ impl Heard {
     {
         Heard {
             alloc,
-            kept: Kept::Scanned(registrations.into_vec()),
+            kept: Storage::Scanned(registrations.into_vec()),
         }
     }
 
@@ -67,7 +67,7 @@ impl Heard {
     {
         Heard {
             alloc,
-            kept: Kept::Hinted(HintedRegistrations::new(alloc, seed)),
+            kept: Storage::Hinted(HintedRegistrations::new(alloc, seed)),
         }
     }
 
@@ -93,8 +93,8 @@ impl Heard {
         ensures { IfOk result (λ c. c ≡ self.now) }
     {
         match &self.kept {
-            Kept::Scanned(registrations) => copies_of(self.alloc, registrations),
-            Kept::Hinted(registrations) => registrations.found().to_items(self.alloc),
+            Storage::Scanned(registrations) => copies_of(self.alloc, registrations),
+            Storage::Hinted(registrations) => registrations.found().to_items(self.alloc),
         }
     }
 
@@ -117,11 +117,11 @@ impl Heard {
         ensures err { OnErr result (self.new ≡ self.old) }
     {
         match &mut self.kept {
-            Kept::Scanned(registrations) => {
+            Storage::Scanned(registrations) => {
                 registrations.push(registration)?;
                 Ok(None)
             }
-            Kept::Hinted(registrations) => registrations.push(registration),
+            Storage::Hinted(registrations) => registrations.push(registration),
         }
     }
 
@@ -133,7 +133,7 @@ impl Heard {
     {
         let mut plain = self.to_items()?.into_vec();
         plain.push(registration)?;
-        self.kept = Kept::Scanned(plain);
+        self.kept = Storage::Scanned(plain);
         Ok(())
     }
 
@@ -144,8 +144,8 @@ impl Heard {
         ensures { self.new ≡ filter (λ r. not (r.number == number)) self.old }
     {
         match &mut self.kept {
-            Kept::Scanned(registrations) => drop_numbered(registrations, number),
-            Kept::Hinted(registrations) => registrations.remove(number),
+            Storage::Scanned(registrations) => drop_numbered(registrations, number),
+            Storage::Hinted(registrations) => registrations.remove(number),
         }
     }
 
@@ -154,8 +154,8 @@ impl Heard {
         ensures { self.new ≡ filter (λ r. not (r.session == session)) self.old }
     {
         match &mut self.kept {
-            Kept::Scanned(registrations) => drop_of(registrations, session),
-            Kept::Hinted(registrations) => registrations.remove_all(&OfSession { session }),
+            Storage::Scanned(registrations) => drop_of(registrations, session),
+            Storage::Hinted(registrations) => registrations.remove_all(&OfSession { session }),
         }
     }
 
@@ -164,8 +164,8 @@ impl Heard {
         ensures { self.new ≡ filter (λ r. not (calls r.transaction x)) self.old }
     {
         match &mut self.kept {
-            Kept::Scanned(registrations) => drop_under(registrations, x),
-            Kept::Hinted(registrations) => registrations.remove_all(&Under { transaction: x }),
+            Storage::Scanned(registrations) => drop_under(registrations, x),
+            Storage::Hinted(registrations) => registrations.remove_all(&Under { transaction: x }),
         }
     }
 
@@ -174,8 +174,8 @@ impl Heard {
         ensures { self.new ≡ filter (λ r. not (r.space == space)) self.old }
     {
         match &mut self.kept {
-            Kept::Scanned(registrations) => drop_at(registrations, space),
-            Kept::Hinted(registrations) => registrations.remove_all(&At { space }),
+            Storage::Scanned(registrations) => drop_at(registrations, space),
+            Storage::Hinted(registrations) => registrations.remove_all(&At { space }),
         }
     }
 
@@ -201,8 +201,8 @@ impl Heard {
         ensures err { OnErr result (self.new ≡ self.old) }
     {
         match &mut self.kept {
-            Kept::Scanned(registrations) => owe_each(classes, registrations, rows, caller),
-            Kept::Hinted(registrations) => registrations.owe_all(classes, rows, caller),
+            Storage::Scanned(registrations) => owe_each(classes, registrations, rows, caller),
+            Storage::Hinted(registrations) => registrations.owe_all(classes, rows, caller),
         }
     }
 
@@ -219,10 +219,10 @@ impl Heard {
         ensures err { OnErr result (self.new ≡ self.old) }
     {
         match &mut self.kept {
-            Kept::Scanned(registrations) => {
+            Storage::Scanned(registrations) => {
                 owe_each_within(classes, registrations, row, caller, range)
             }
-            Kept::Hinted(registrations) => registrations.owe_within(classes, row, caller, range),
+            Storage::Hinted(registrations) => registrations.owe_within(classes, row, caller, range),
         }
     }
 
@@ -239,8 +239,8 @@ impl Heard {
         ensures { IfOk result (λ below. IfSome below (λ b. from ≤ b)) }
     {
         match &self.kept {
-            Kept::Scanned(_) => Ok(None),
-            Kept::Hinted(registrations) => {
+            Storage::Scanned(_) => Ok(None),
+            Storage::Hinted(registrations) => {
                 registrations.bound_of(classes, row, caller, from, most)
             }
         }
@@ -252,8 +252,8 @@ impl Heard {
         ensures { self.new ≡ map (forgiven classes.now caller rows.now) self.old }
     {
         match &mut self.kept {
-            Kept::Scanned(registrations) => forgive_each(classes, registrations, rows, caller),
-            Kept::Hinted(registrations) => registrations.forgive_all(classes, rows, caller),
+            Storage::Scanned(registrations) => forgive_each(classes, registrations, rows, caller),
+            Storage::Hinted(registrations) => registrations.forgive_all(classes, rows, caller),
         }
     }
 
@@ -264,8 +264,8 @@ impl Heard {
         ensures { self.new ≡ update (λ r. r.number == number) told_once self.old }
     {
         match &mut self.kept {
-            Kept::Scanned(registrations) => tell_each(registrations, number),
-            Kept::Hinted(registrations) => registrations.tell(number),
+            Storage::Scanned(registrations) => tell_each(registrations, number),
+            Storage::Hinted(registrations) => registrations.tell(number),
         }
     }
 
@@ -274,8 +274,8 @@ impl Heard {
         ensures { self.new ≡ map (registration_ending number end) self.old }
     {
         match &mut self.kept {
-            Kept::Scanned(registrations) => extend_each(registrations, number, end),
-            Kept::Hinted(registrations) => registrations.extend(number, end),
+            Storage::Scanned(registrations) => extend_each(registrations, number, end),
+            Storage::Hinted(registrations) => registrations.extend(number, end),
         }
     }
 
@@ -286,8 +286,8 @@ impl Heard {
         ensures { result ≡ (length self.now == 0) }
     {
         match &self.kept {
-            Kept::Scanned(registrations) => registrations.is_empty(),
-            Kept::Hinted(registrations) => registrations.found().is_empty(),
+            Storage::Scanned(registrations) => registrations.is_empty(),
+            Storage::Hinted(registrations) => registrations.found().is_empty(),
         }
     }
 
@@ -296,8 +296,8 @@ impl Heard {
         ensures { result ≡ nat_le count (length self.now) }
     {
         match &self.kept {
-            Kept::Scanned(registrations) => count <= registrations.len(),
-            Kept::Hinted(registrations) => registrations.found().has_at_least(count),
+            Storage::Scanned(registrations) => count <= registrations.len(),
+            Storage::Hinted(registrations) => registrations.found().has_at_least(count),
         }
     }
 
@@ -306,8 +306,8 @@ impl Heard {
         ensures { result ≡ length (filter (λ r. r.space == space) self.now) }
     {
         match &self.kept {
-            Kept::Scanned(registrations) => count_at(registrations, space),
-            Kept::Hinted(registrations) => registrations.found().count(&At { space }),
+            Storage::Scanned(registrations) => count_at(registrations, space),
+            Storage::Hinted(registrations) => registrations.found().count(&At { space }),
         }
     }
 
@@ -316,8 +316,8 @@ impl Heard {
         ensures { option_copied result ≡ find (λ r. r.number == number) self.now }
     {
         match &self.kept {
-            Kept::Scanned(registrations) => find_numbered(registrations, number),
-            Kept::Hinted(registrations) => registrations.get(number),
+            Storage::Scanned(registrations) => find_numbered(registrations, number),
+            Storage::Hinted(registrations) => registrations.get(number),
         }
     }
 
@@ -333,8 +333,8 @@ impl Heard {
         ensures { result ≡ list_any (λ r. r.number == number && P.is_passed test.now r) self.now }
     {
         match &self.kept {
-            Kept::Scanned(registrations) => any_numbered(registrations, number, test),
-            Kept::Hinted(registrations) => registrations.found().any_of(number, test),
+            Storage::Scanned(registrations) => any_numbered(registrations, number, test),
+            Storage::Hinted(registrations) => registrations.found().any_of(number, test),
         }
     }
 
@@ -343,8 +343,8 @@ impl Heard {
         ensures { option_copied result ≡ find (λ r. r.space == space && not (length r.owed == 0)) self.now }
     {
         match &self.kept {
-            Kept::Scanned(registrations) => first_that_is_owed(registrations, space),
-            Kept::Hinted(registrations) => registrations.first_owed(space),
+            Storage::Scanned(registrations) => first_that_is_owed(registrations, space),
+            Storage::Hinted(registrations) => registrations.first_owed(space),
         }
     }
 
@@ -355,8 +355,8 @@ impl Heard {
         ensures { result ≡ option_map (λ (r : OfRegistration). r.number) (find (P.is_passed test.now) self.now) }
     {
         match &self.kept {
-            Kept::Scanned(registrations) => first_passing(registrations, test),
-            Kept::Hinted(registrations) => registrations.first_number(test),
+            Storage::Scanned(registrations) => first_passing(registrations, test),
+            Storage::Hinted(registrations) => registrations.first_number(test),
         }
     }
 
@@ -365,8 +365,8 @@ impl Heard {
         ensures { result ≡ first_item (over_by time (map registration_end self.now)) }
     {
         match &self.kept {
-            Kept::Scanned(registrations) => first_over(registrations, time),
-            Kept::Hinted(registrations) => registrations.due(time),
+            Storage::Scanned(registrations) => first_over(registrations, time),
+            Storage::Hinted(registrations) => registrations.due(time),
         }
     }
 
@@ -375,8 +375,8 @@ impl Heard {
         ensures { IfOk result (λ v. v.items ≡ map (λ r. r.space) (filter (λ r. r.number == number) self.now)) }
     {
         match &self.kept {
-            Kept::Scanned(registrations) => spaces_among(alloc, registrations, number),
-            Kept::Hinted(registrations) => spaces_of(alloc, registrations.found(), number),
+            Storage::Scanned(registrations) => spaces_among(alloc, registrations, number),
+            Storage::Hinted(registrations) => spaces_of(alloc, registrations.found(), number),
         }
     }
 }

@@ -10,11 +10,11 @@ ghost use Rattle.jsp_notify.specs.Owing.{owed as with_owed, owed_within, forgive
 ghost use Rattle.jsp_notify.specs.Registered.{registration_end, registration_ending, told_once};
 ghost use Rattle.jsp_notify.specs.Sought.{registration_keys};
 
-use crate::asking::{Hears, HearsWithin, OwedAt};
 use crate::by_number::Found;
-use crate::changing::{Extension, Forgiving, Owing, Telling};
 use crate::naming::{forget_gone, forget_told, name_listeners, name_owed};
 use crate::owing::Range;
+use crate::registration_changes::{Extension, Forgiving, Owing, Telling};
+use crate::registration_keys::{Hears, HearsWithin, OwedAt};
 use jsp_keyed::{Keyed, Keys};
 use jsp_model::{Item, Registration, Row};
 use jsp_table::{Hints, Numbers, Test};

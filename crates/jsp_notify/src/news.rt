@@ -15,8 +15,8 @@ use jsp_types::{Classes, Items, NoMemory};
 use std::alloc::Global;
 use std::collections::HashMap;
 
-/// The rows that a commit or a batch of writes brought, with the classes that were declared then. The
-/// registrations of a space are told so many of them.
+/// The rows that a commit or a batch of writes brought, with the classes that were declared then.
+/// The registrations of a space are told so many of them.
 #[derive(Drop)]
 pub(crate) struct News {
     classes: Classes,
@@ -149,8 +149,8 @@ impl News {
         Ok(())
     }
 
-    /// A number below which so many registrations of a space or fewer, of those that weren't told the
-    /// next row, are to be told it; nothing where no more are left.
+    /// A number below which so many registrations of a space or fewer, of those that weren't told
+    /// the next row, are to be told it; nothing where no more are left.
     pub(crate) fn bound_of(
         &self,
         heard: &Heard,
@@ -169,8 +169,8 @@ impl News {
         heard.bound_of(&self.classes, row, self.caller, from, most)
     }
 
-    /// The registrations of a space that weren't told the next row, up to a number, are owed this row,
-    /// where it is there.
+    /// The registrations of a space that weren't told the next row, up to a number, are owed this
+    /// row, where it is there.
     fn owe_row(
         &self,
         heard: &mut Heard,

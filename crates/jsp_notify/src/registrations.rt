@@ -14,10 +14,10 @@ ghost use Rattle.jsp_notify.specs.News.{hearing, without_owed};
 ghost use Rattle.jsp_notify.specs.Owing.{owed as with_owed};
 ghost use Rattle.jsp_notify.specs.Registered.{registration_end, registration_ending, told_once};
 
-use crate::asking::{OfSession, OwedAfter, is_owed_after};
 use crate::heard::Heard;
 use crate::listeners::Listeners;
 use crate::news::News;
+use crate::registration_keys::{OfSession, OwedAfter, is_owed_after};
 use crate::untold::{is_all_told, tell_all_in, tell_before, tell_some, tell_spaces_of};
 use jsp_model::{Item, Registration, Row};
 use jsp_table::Test;

@@ -7,7 +7,7 @@ ghost use Rattle.jsp_model.specs.Lookup.{update, is_caller as calls};
 ghost use Rattle.jsp_sight.specs.Rows.{earlier as earlier_of};
 ghost use Rattle.jsp_notify.specs.Registered.{registration_end, registration_ending, telling, told_once};
 
-use crate::changing::Telling;
+use crate::registration_changes::Telling;
 use jsp_model::{Item, Rank, Registration};
 use jsp_sight::{earlier, is_caller};
 use jsp_table::{Change, Test};

@@ -4,9 +4,9 @@ ghost use Rattle.std.specs.List.{list_all, list_any};
 ghost use Rattle.jsp_notify.specs.declared.news.News.{News as OfNews};
 ghost use Rattle.jsp_notify.specs.News.{all_told, hearing, is_behind, is_told as told_in, still_to_tell};
 
-use crate::asking::Behind;
 use crate::heard::Heard;
 use crate::news::News;
+use crate::registration_keys::Behind;
 use jsp_model::Row;
 use jsp_types::{Items, NoMemory};
 use std::alloc::Global;

@@ -5,12 +5,12 @@
 //! jsp_model) is in the type, so no caller shows it. Each outbox is a queue, and a session's is
 //! found by binary search. So to hand out answers costs what is handed out, however many wait.
 //!
-//! `next_told` names the sessions that were told something lately, so that who is to be woken is found
-//! without a look at all who have answers waiting. That it leaves none out is tested, not proved, and
-//! so is `weight`, about how much memory takes what waits for a session.
+//! `next_told` names the sessions that were told something lately, so that who is to be woken is
+//! found without a look at all who have answers waiting. That it leaves none out is tested, not
+//! proved, and so is `weight`, about how much memory takes what waits for a session.
 //!
-//! Posting is whole or not at all and answers where it was, by which it is taken back. Only posting,
-//! handing out a part of an outbox, and copies take memory.
+//! Posting is whole or not at all and answers where it was, by which it is taken back. Only
+//! posting, handing out a part of an outbox, and copies take memory.
 #![tactic(auto)]
 
 mod copy;

@@ -1,4 +1,5 @@
-//! The outboxes of all sessions. Contracts see them as a list, by rising session number, none empty.
+//! The outboxes of all sessions. Contracts see them as a list, by rising session number, none
+//! empty.
 ghost use Rattle.std.specs.Prelude.{◌≡◌, [], nat_lt, length, take, find, fold, option_map, IfOk, OnOk, OnErr, IsTrue};
 ghost use Rattle.jsp_model.specs.Outboxes.{post as posted, hand_out as handed_out};
 ghost use Rattle.jsp_model.specs.Limits.{are_outboxes};
@@ -151,8 +152,8 @@ impl Outboxes {
 
     // ---- find
 
-    /// A session that was told something since it was named here, while there is one. Where very many were,
-    /// each that has an outbox is named. It may have none by now. Nothing else changes.
+    /// A session that was told something since it was named here, while there is one. Where very
+    /// many were, each that has an outbox is named. It may have none by now. Nothing else changes.
     pub fn next_told(&mut self) -> Option<u64>
         ensures { self.new ≡ self.old }
     {
@@ -166,7 +167,8 @@ impl Outboxes {
         find::waiting(self.queues.as_slice(), session)
     }
 
-    /// About how many bytes of memory the answers take that wait for the session. No clause says it.
+    /// About how many bytes of memory the answers take that wait for the session. No clause says
+    /// it.
     pub fn weight(&self, session: u64) -> u64 {
         find::weight(self.queues.as_slice(), session)
     }

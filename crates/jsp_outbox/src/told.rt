@@ -9,8 +9,8 @@ use std::alloc::Global;
 /// How many are noted one by one.
 const MOST: usize = 1024;
 
-/// The sessions that were told something since they were asked for. More than a few aren't noted, nor
-/// where memory is refused: then it is each that has an outbox, from the first one on.
+/// The sessions that were told something since they were asked for. More than a few aren't noted,
+/// nor where memory is refused: then it is each that has an outbox, from the first one on.
 #[derive(Drop)]
 pub(crate) struct Told {
     noted: Vec<u64>,

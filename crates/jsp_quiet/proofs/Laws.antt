@@ -11,7 +11,7 @@ use Rattle.jsp_model.specs.Due.{due}
 use Rattle.jsp_model.specs.Touches.{touches}
 use Rattle.jsp_model.specs.Steps.{is_legal, next}
 use Rattle.jsp_quiet.specs.Quieting.{owed_events, left_to_say, can_make_due}
-use Rattle.jsp_quiet.specs.Laws.{SteadyStates, NothingBecomesDueAlong, UsesUp, Ends, GoesOn}
+use Rattle.jsp_quiet.specs.Laws.{SteadyStates, NothingBecomesDueAlong, UsesUp, Ends, LawsOfProgress}
 use Rattle.jsp_quiet.proofs.Steady.{steady_empty, steady_step, steady_run}
 use Rattle.jsp_quiet.proofs.Falls.{grant_answers, empty_answers, tell_tells, EndsOne, due_ends, quieting_ends, free_ends}
 use Rattle.jsp_quiet.proofs.Progress.{can_grant, can_empty, can_tell, can_quiet}
@@ -54,7 +54,7 @@ can_end : (st : State) (i : Item) → due st ≡ Some i → are_quiet st (touche
 unfolding is_legal
 can_end st i d q = and_from (option_map_or (is_item i) (due st) false) (are_quiet st (touches st (step.Due i))) (rw d (itself i)) q
 
-pub goes_on : GoesOn
+pub goes_on : LawsOfProgress
 goes_on = record {
   grant = λ st b s h m e. can_grant st b s.rising h m e;
   empty = λ st b s h e k. can_empty st b s.rising h e k;

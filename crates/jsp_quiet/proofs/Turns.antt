@@ -14,7 +14,7 @@ use Rattle.jsp_model.specs.Quiet.{is_quiet, are_quiet}
 use Rattle.jsp_model.specs.Runs.{IsRun, state_after}
 use Rattle.jsp_model.specs.Steps.{is_vote_to_abort}
 use Rattle.jsp_model.specs.Settling.{first_voting, turn_of, settle_step, places, AllQuiet}
-use Rattle.jsp_model.specs.House.{Answers, answer_to, own_of, touched}
+use Rattle.jsp_model.specs.House.{AnswersTurn, answer_to, own_of, touched}
 use Rattle.jsp_model.proofs.Closing.{free_run_spaces}
 use Rattle.jsp_laws.proofs.Lists.{each_has, each_by_all}
 use Rattle.jsp_quiet.specs.Steady.{IsSteady}
@@ -54,5 +54,5 @@ turn_by P st s vote decide e = go (first_voting st) e
         let is : turn_of st x ≡ s = cc (k) in
         subst P is (at x (list_any is_vote_to_abort (joined_of st x)) (find (λ (j : Joined). is_none j.vote) (joined_of st x)))
 
-pub settle_answers : (old new : State) (s : Step) → settle_step old ≡ Some s → Answers old new (answer_to s)
-settle_answers old new s e = turn_by (λ w. settle_step old ≡ Some w → Answers old new (answer_to w)) old s (λ x space k. (x, space, k)) (λ x c k. (x, c, k)) e e
+pub settle_answers : (old new : State) (s : Step) → settle_step old ≡ Some s → AnswersTurn old new (answer_to s)
+settle_answers old new s e = turn_by (λ w. settle_step old ≡ Some w → AnswersTurn old new (answer_to w)) old s (λ x space k. (x, space, k)) (λ x c k. (x, c, k)) e e

@@ -129,7 +129,7 @@ pub record Ends : Type 0 where
 abbrev pub AskingStays : Type 0
 AskingStays = (st : State) (act : Step) → IsTrue (asks_for_some act) → AllAskForSome st → AllAskForSome (next st act)
 
-pub record GoesOn : Type 0 where
+pub record LawsOfProgress : Type 0 where
   -- a request that need not wait gets the first rows that are available to it, or is answered that there are none
   pub grant : (st : State) (b : Blocked) → IsSteady st → Has st.blocked b → 1 ≤ b.most → 0 < length (available st b) → IsTrue (is_legal st (step.Grant b.number (take b.most (available st b))))
   pub empty : (st : State) (b : Blocked) → IsSteady st → Has st.blocked b → length (available st b) ≡ 0 → IsFalse (must_wait st b) → IsTrue (is_legal st (step.Empty b.number))

@@ -12,11 +12,11 @@ mod members;
 mod pairs;
 mod refusal;
 mod reply;
+mod reply_text;
 mod said;
 mod shown;
-mod writing;
 
 pub use refusal::Refusal;
 pub use reply::{LeaseAnswer, LeaseOutcome, Reply, TxnState};
+pub use reply_text::text;
 pub use said::Said;
-pub use writing::text;

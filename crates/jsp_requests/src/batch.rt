@@ -1,5 +1,5 @@
-//! Renewing and cancelling leases in batches, as a `LeaseMap` does (Jini Leasing): one by one, in one
-//! step. One that is refused leaves all as it was, and the others go on.
+//! Renewing and cancelling leases in batches, as a `LeaseMap` does (Jini Leasing): one by one, in
+//! one step. One that is refused leaves all as it was, and the others go on.
 ghost use Rattle.std.specs.Prelude.{◌≡◌, ◌≤◌, ◌==◌, ◌&&◌, ◌^◌, ℕ, not, fold, None, IfOk};
 ghost use Rattle.std.specs.List.{scan, list_any};
 ghost use Rattle.jsp_requests.specs.Cancelling.{ends_it};
@@ -56,8 +56,8 @@ fn cancel_one(state: &mut Core, lease: &i64)
     }
 }
 
-/// What becomes of each lease that is to be renewed. A renewal changes no number, so each is answered
-/// by the state before all of them.
+/// What becomes of each lease that is to be renewed. A renewal changes no number, so each is
+/// answered by the state before all of them.
 pub(crate) fn renew_answers(
     alloc: Global,
     state: &Core,
@@ -195,8 +195,8 @@ impl<'a> Test<MatchSet> for IsLeft<'a> {
     }
 }
 
-/// Whether one of these leases, once cancelled, ends what has the number, or the transaction that it
-/// is under.
+/// Whether one of these leases, once cancelled, ends what has the number, or the transaction that
+/// it is under.
 fn is_ended(state: &Core, leases: &[i64], number: u64, under: Option<u64>) -> bool
     ensures { result ≡ ended state.now leases.now number under }
 {

@@ -15,8 +15,8 @@ use jsp_reply::{Refusal, Reply};
 use jsp_state::{is_voting, named, rank_of};
 use jsp_transactions::remove;
 
-/// Why a lease is neither renewed nor cancelled: nothing has the number, or it is a transaction whose
-/// commit was asked.
+/// Why a lease is neither renewed nor cancelled: nothing has the number, or it is a transaction
+/// whose commit was asked.
 pub(crate) fn refuse_cancel(state: &Core, lease: &i64) -> Option<Refusal>
     ensures { result ≡ first_that (lease_tests state.now lease.now) }
 {
@@ -54,8 +54,8 @@ pub(crate) fn grants_nothing(ms: &i64) -> bool
     granted(*ms).is_none()
 }
 
-/// Renews a lease: it ends when the time that is granted has passed from now on, whatever was left of
-/// it.
+/// Renews a lease: it ends when the time that is granted has passed from now on, whatever was left
+/// of it.
 pub(crate) fn accept_renew(state: &mut Core, lease: &i64, ms: &i64)
     requires { state.old.time ≤ LAST_TIME }
     ensures made { state.new ≡ renewed state.old lease.now ms.now }

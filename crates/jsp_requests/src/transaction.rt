@@ -1,5 +1,5 @@
-//! Transactions as requests ask of them: beginning one, asking its commit, aborting it, its state; and
-//! resetting a space (Jini Transactions; reset is this profile's own).
+//! Transactions as requests ask of them: beginning one, asking its commit, aborting it, its state;
+//! and resetting a space (Jini Transactions; reset is this profile's own).
 ghost use Rattle.std.specs.Prelude.{◌≡◌, ◌==◌, ◌&&◌, length, nat_le, if◌then◌else◌};
 ghost use Rattle.std.specs.List.{list_any};
 ghost use Rattle.jsp_types.specs.Tests.{first_that};

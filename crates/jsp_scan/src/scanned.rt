@@ -60,7 +60,8 @@ impl ScannedRows {
         plain_copy(&self.items)
     }
 
-    /// Adds rows at the end, whole or not at all. Where memory is refused they stay with the caller.
+    /// Adds rows at the end, whole or not at all. Where memory is refused they stay with the
+    /// caller.
     pub fn append(&mut self, rows: &mut Vec<Row>) -> Result<(), NoMemory>
         ensures ok { OnOk result (self.new ≡ self.old ++ rows.old.items) }
         ensures err { OnErr result (self.new ≡ self.old) }
@@ -165,7 +166,8 @@ impl ScannedRows {
         has_changes(&self.items, x, space)
     }
 
-    /// Copies of the rows that the transaction's commit publishes: it wrote them and didn't take them.
+    /// Copies of the rows that the transaction's commit publishes: it wrote them and didn't take
+    /// them.
     pub fn published(&self, alloc: Global, x: u64) -> Result<Vec<Row>, NoMemory>
         ensures { IfOk result (λ v. v.items ≡ publishes x self.now) }
     {

@@ -6,8 +6,8 @@ use Rattle.hex.specs.Hex.{decode_of}
 use Rattle.jsp_frame.specs.Stream.{frame_of}
 use Rattle.jsp_drive.specs.declared.acts.Act.{Act}
 use Rattle.jsp_drive.specs.declared.acts.Act.TheVariants as act
-use Rattle.jsp_script.specs.declared.line.Line.{Line}
-use Rattle.jsp_script.specs.declared.line.Line.TheVariants as line_is
+use Rattle.jsp_script.specs.declared.script_line.Line.{Line}
+use Rattle.jsp_script.specs.declared.script_line.Line.TheVariants as line_is
 use Rattle.jsp_script.specs.declared.fault.ScriptFault.{ScriptFault}
 use Rattle.jsp_script.specs.declared.fault.ScriptFault.TheVariants as fault
 

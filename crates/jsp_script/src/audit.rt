@@ -6,8 +6,8 @@ ghost use Rattle.jsp_script.specs.Audit.{Has, IsHistory, frames_to, AuditFails, 
 
 use crate::fault::ScriptFault;
 use crate::streams::{Streams, streams_said, streams_sent};
-use jsp_audit::{ReplayFault, replay};
 use jsp_drive::Sent;
+use jsp_machine::{ReplayFault, replay};
 use jsp_model::{Config, Step};
 use std::alloc::Global;
 

@@ -14,11 +14,11 @@
 
 mod audit;
 mod fault;
-mod line;
 mod lines;
+mod output;
 mod print;
-mod run;
+mod runner;
+mod script_line;
 mod streams;
-mod writing;
 
-pub use run::{Ending, Status, script};
+pub use runner::{Ending, Status, script};

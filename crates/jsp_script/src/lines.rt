@@ -3,7 +3,7 @@ ghost use Rattle.std.specs.Prelude.{◌≤◌, ◌^◌, IfOk, IfErr, length};
 ghost use Rattle.jsp_script.specs.Script.{lines_of, AreActsOf, FailsBy};
 
 use crate::fault::ScriptFault;
-use crate::line::{Line, read_line};
+use crate::script_line::{Line, read_line};
 use jsp_drive::Act;
 use std::alloc::Global;
 

@@ -1,8 +1,8 @@
 //! One row: what a caller sees of it, and what becomes of it.
 //!
 //! A row has marks: the transaction that wrote it, those that read it, and the one that took it.
-//! `is_available`, `is_in_conflict` and `may_show` say what a request or a match set finds in a row,
-//! the other calls change one, each by a definition of `specs/` or of jsp_model. Whatever
+//! `is_available`, `is_in_conflict` and `may_show` say what a request or a match set finds in a
+//! row, the other calls change one, each by a definition of `specs/` or of jsp_model. Whatever
 //! keeps rows, by a list or by hints, judges and changes each of them by these calls.
 #![tactic(auto)]
 

@@ -33,15 +33,16 @@ pub fn is_take(form: Form) -> bool
     }
 }
 
-/// Whether a request of this form waits only for a row in conflict (the IfExists forms of JavaSpaces).
+/// Whether a request of this form waits only for a row in conflict (the IfExists forms of
+/// JavaSpaces).
 pub fn is_if(form: Form) -> bool
     ensures { result ≡ waits_for_conflict form }
 {
     matches!(form, Form::ReadIf | Form::TakeIf)
 }
 
-/// Whether the request may be given the row: it is in its space, one of its templates matches it, and
-/// it may be read or taken, as the form asks.
+/// Whether the request may be given the row: it is in its space, one of its templates matches it,
+/// and it may be read or taken, as the form asks.
 pub fn is_available(classes: &Classes, blocked: &Blocked, row: &Row) -> bool
     ensures { result ≡ offered classes.now blocked.now row.now }
 {
@@ -115,8 +116,8 @@ pub fn is_free(caller: Option<u64>, holder: Option<u64>) -> bool
     }
 }
 
-/// Whether the set may still show the row: it could be read, is of the set's space and template, above
-/// its cursor and below its own number.
+/// Whether the set may still show the row: it could be read, is of the set's space and template,
+/// above its cursor and below its own number.
 pub fn may_show(classes: &Classes, set: &MatchSet, row: &Row) -> bool
     ensures { result ≡ shows classes.now set.now row.now }
 {

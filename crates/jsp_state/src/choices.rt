@@ -10,8 +10,8 @@ use jsp_model::Blocked;
 use jsp_types::{Items, NoMemory};
 use std::alloc::Global;
 
-/// The numbers of the rows that a request is given: of those that it may be given the least, at most
-/// as many as it asks for. Any would do (JavaSpaces); the least ones are this profile's own.
+/// The numbers of the rows that a request is given: of those that it may be given the least, at
+/// most as many as it asks for. Any would do (JavaSpaces); the least ones are this profile's own.
 pub fn choose(alloc: Global, state: &Core, blocked: &Blocked) -> Result<Items<u64>, NoMemory>
     ensures { IfOk result (λ ns. ns ≡ take blocked.now.most (available state.now blocked.now)) }
 {

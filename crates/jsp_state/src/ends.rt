@@ -39,8 +39,8 @@ fn soonest(one: Option<Item>, other: Option<Item>) -> Option<Item>
     }
 }
 
-/// The end of a voting transaction doesn't count. That one is over and another votes is rare, and only
-/// then each is looked at.
+/// The end of a voting transaction doesn't count. That one is over and another votes is rare, and
+/// only then each is looked at.
 fn first_active(state: &Core, time: u64) -> Option<Item>
     ensures { result ≡ first_item (over_by time (map transaction_end (filter (λ t. not (votes state.now t.number)) state.now.transactions))) }
 {

@@ -1,10 +1,11 @@
 //! Finding things in a state of the abstract spaces, and what is said to its sessions.
 //!
-//! Each list finds by itself what is asked of it, by hints or by a scan (jsp_store, jsp_wait, jsp_notify,
-//! jsp_txn); here is what goes over several of them. Each call's contract is a definition of jsp_model:
-//! what a caller may see (`Sight`), whether a space owes anything (`Quiet`), what is due (`Due`), what a
-//! number names (`Lookup`). What is said is posted by jsp_outbox; here it is handed out. What answers
-//! with no list takes no memory, so its result is not a `Result`. Houses and replays stand on this crate.
+//! Each list finds by itself what is asked of it, by hints or by a scan (jsp_store, jsp_wait,
+//! jsp_notify, jsp_txn); here is what goes over several of them. Each call's contract is a
+//! definition of jsp_model: what a caller may see (`Sight`), whether a space owes anything
+//! (`Quiet`), what is due (`Due`), what a number names (`Lookup`). What is said is posted by
+//! jsp_outbox; here it is handed out. What answers with no list takes no memory, so its result is
+//! not a `Result`. Houses and replays stand on this crate.
 #![tactic(auto)]
 
 mod access;

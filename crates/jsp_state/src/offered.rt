@@ -1,5 +1,6 @@
-//! Which of the requests that wait need wait no longer. Only rows on offer are looked at, each by those
-//! that may want it, and of those that wait for a conflict to end only those that are stirred.
+//! Which of the requests that wait need wait no longer. Only rows on offer are looked at, each by
+//! those that may want it, and of those that wait for a conflict to end only those that are
+//! stirred.
 ghost use Rattle.std.specs.Prelude.{◌≡◌, ◌==◌, ◌&&◌, not, map, length, find, option_copied, option_map, is_none, IsTrue, Some, None, []};
 ghost use Rattle.std.specs.Bool.{OnTrue};
 ghost use Rattle.std.specs.List.{list_any};

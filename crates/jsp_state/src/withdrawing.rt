@@ -1,5 +1,5 @@
-//! Which rows are on offer no more, and which requests are stirred no more: the rows that no waiting request
-//! may be given, and the requests that a conflict holds up.
+//! Which rows are on offer no more, and which requests are stirred no more: the rows that no
+//! waiting request may be given, and the requests that a conflict holds up.
 ghost use Rattle.std.specs.Prelude.{◌≡◌, ◌==◌, ◌&&◌, not, length, find, is_none, None, []};
 ghost use Rattle.std.specs.Bool.{OnTrue};
 ghost use Rattle.std.specs.List.{list_any};
@@ -52,8 +52,8 @@ fn is_freed(state: &Core, number: u64) -> bool
     state.blocked.is_freed(number, &RowsOf { state })
 }
 
-/// Takes off the rows that no waiting request may be given, and the requests that a conflict holds up still.
-/// The state stays.
+/// Takes off the rows that no waiting request may be given, and the requests that a conflict holds
+/// up still. The state stays.
 pub fn withdraw(image: &mut LiveImage)
     ensures { image.new ≡ image.old }
 {
@@ -96,8 +96,8 @@ fn nobody_waits(state: &Core) -> bool
     state.blocked.is_known_empty()
 }
 
-/// Whether it is seen that no row may be given to a request that waits. Where a space has decisions to
-/// apply nobody looks: each row would be looked at for each request.
+/// Whether it is seen that no row may be given to a request that waits. Where a space has decisions
+/// to apply nobody looks: each row would be looked at for each request.
 fn is_nothing_wanted(state: &Core) -> bool
     ensures { OnTrue result (find (λ b. not (length (available state.now b) == 0)) state.now.blocked ≡ None) }
 {
@@ -110,8 +110,8 @@ fn no_row_is_wanted(state: &Core) -> bool
     state.blocked.first(&Grantable { state }).is_none()
 }
 
-/// Whether it is seen that a conflict holds up each request that waits for one to end. Where a space has
-/// decisions to apply nobody looks.
+/// Whether it is seen that a conflict holds up each request that waits for one to end. Where a
+/// space has decisions to apply nobody looks.
 fn is_nobody_freed(state: &Core) -> bool
     ensures { OnTrue result (find (λ b. waits_for_conflict b.form && not (held_up state.now b)) state.now.blocked ≡ None) }
 {

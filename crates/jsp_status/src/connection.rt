@@ -26,8 +26,9 @@ pub(crate) const LIMITS: Config = Config {
 
 /// Answers a connection over HTTP, and says that it is then to be closed.
 ///
-/// `GET /` is answered with the page, `GET /status.json` with the JSON, `GET /metrics` with the metrics, another path with
-/// 404, another method with 405, and what isn't HTTP with 400. An `Err` is for memory, and for a reader or writer that fails.
+/// `GET /` is answered with the page, `GET /status.json` with the JSON, `GET /metrics` with the
+/// metrics, another path with 404, another method with 405, and what isn't HTTP with 400. An `Err`
+/// is for memory, and for a reader or writer that fails.
 pub fn serve<R: Read, W: Write>(
     alloc: Global,
     keys: RandomState,

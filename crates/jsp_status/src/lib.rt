@@ -1,15 +1,16 @@
-//! What a running server says about itself: numbers, as JSON for programs, as metrics for Prometheus
-//! and as a page for a browser, over HTTP.
+//! What a running server says about itself: numbers, as JSON for programs, as metrics for
+//! Prometheus and as a page for a browser, over HTTP.
 //!
-//! [`Status`] is a plain value that a server fills. [`to_json`], [`to_metrics`] and [`to_page`] make its three texts,
-//! and [`serve`] answers a browser or a program with one of them, over any reader and writer. [`answer_so_far`] does so
-//! without waiting for what is still to come. [`ask`] is the other end, for people at a terminal.
+//! [`Status`] is a plain value that a server fills. [`to_json`], [`to_metrics`] and [`to_page`]
+//! make its three texts, and [`serve`] answers a browser or a program with one of them, over any
+//! reader and writer. [`answer_so_far`] does so without waiting for what is still to come. [`ask`]
+//! is the other end, for people at a terminal.
 //!
-//! It is proved what each text is: JSON that is read as the numbers (`specs/Data.antt`), the lines of metrics
-//! (`specs/Metrics.antt`), and a page of four tables and of charts (`specs/Page.antt`, `specs/Chart.antt`) to which no
-//! name adds a tag, whatever it holds (`specs/Tags.antt`). It is proved that what is written are HTTP's answers to the
-//! requests that were read, each the page, the JSON, the metrics, or a refusal, by its method and path
-//! (`specs/Answer.antt`).
+//! It is proved what each text is: JSON that is read as the numbers (`specs/Data.antt`), the lines
+//! of metrics (`specs/Metrics.antt`), and a page of four tables and of charts (`specs/Page.antt`,
+//! `specs/Chart.antt`) to which no name adds a tag, whatever it holds (`specs/Tags.antt`). It is
+//! proved that what is written are HTTP's answers to the requests that were read, each the page,
+//! the JSON, the metrics, or a refusal, by its method and path (`specs/Answer.antt`).
 #![tactic(auto)]
 
 mod answer;

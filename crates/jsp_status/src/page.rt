@@ -62,7 +62,8 @@ const CHARTS: &[u8] = b"</table>\n<h2>The last five minutes</h2>\n<div>\n";
 const FOOT: &[u8] = b"</div>\n</body>\n</html>\n";
 
 /// The status as a page of HTML: a table of the server's numbers, one with a row for each refusal,
-/// one with a row for each space, one with a row for each connection that is listed, and the charts.
+/// one with a row for each space, one with a row for each connection that is listed, and the
+/// charts.
 pub fn to_page(alloc: Global, status: &Status) -> Result<Vec<u8>, AllocError>
     ensures shown { IfOk result (λ page. page.items ≡ page_of status.now) }
     ensures tags { IfOk result (λ page. tags_in page.items ≡ tags_of status.now) }

@@ -30,11 +30,11 @@ pub enum Keeping {
 #[derive(Drop)]
 pub struct Rows {
     alloc: Global,
-    kept: Kept,
+    kept: Storage,
 }
 
 #[derive(Drop)]
-enum Kept {
+enum Storage {
     Scanned(ScannedRows),
     Hinted(DecidedRows),
 }
@@ -42,7 +42,7 @@ enum Kept {
 impl Model for Rows {
     ghost use Rattle.std.specs.Prelude.{List};
     ghost use Rattle.jsp_model.specs.declared.state.Row.{Row};
-    ghost use Rattle.jsp_store.specs.Kept.{rows_in};
+    ghost use Rattle.jsp_store.specs.Storage.{rows_in};
 
     ghost Value = { List Row };
 
@@ -55,8 +55,8 @@ impl Rows {
         ensures { result ≡ [] }
     {
         let kept = match keeping {
-            Keeping::Scanned => Kept::Scanned(ScannedRows::new(alloc)),
-            Keeping::Hinted { seed } => Kept::Hinted(DecidedRows::new(alloc, seed)),
+            Keeping::Scanned => Storage::Scanned(ScannedRows::new(alloc)),
+            Keeping::Hinted { seed } => Storage::Hinted(DecidedRows::new(alloc, seed)),
         };
         Rows { alloc, kept }
     }
@@ -76,29 +76,31 @@ impl Rows {
         ensures { IfOk result (λ c. c ≡ self.now) }
     {
         match &self.kept {
-            Kept::Scanned(rows) => rows.to_items(),
-            Kept::Hinted(rows) => rows.to_items(self.alloc),
+            Storage::Scanned(rows) => rows.to_items(),
+            Storage::Hinted(rows) => rows.to_items(self.alloc),
         }
     }
 
     // ---- append
 
-    /// Adds rows at the end, whole or not at all. Where memory is refused they stay with the caller.
+    /// Adds rows at the end, whole or not at all. Where memory is refused they stay with the
+    /// caller.
     pub fn append(&mut self, rows: &mut Vec<Row>) -> Result<(), NoMemory>
         ensures ok { OnOk result (self.new ≡ self.old ++ rows.old.items) }
         ensures err { OnErr result (self.new ≡ self.old) }
         ensures rows_stay { OnErr result (rows.new.items ≡ rows.old.items) }
     {
         match &mut self.kept {
-            Kept::Scanned(stored) => stored.append(rows),
-            Kept::Hinted(stored) => {
+            Storage::Scanned(stored) => stored.append(rows),
+            Storage::Hinted(stored) => {
                 if stored.is_above(rows.as_slice()) {
                     return stored.append(rows);
                 }
-                // Hints are for rising numbers. The machine's rise; others are scanned from here on.
+                // Hints are for rising numbers. The machine's rise; others are scanned from here
+                // on.
                 let mut plain = ScannedRows::of(stored.to_items(self.alloc)?);
                 plain.append(rows)?;
-                self.kept = Kept::Scanned(plain);
+                self.kept = Storage::Scanned(plain);
                 Ok(())
             }
         }
@@ -111,8 +113,8 @@ impl Rows {
         ensures { self.new ≡ filter (λ r. not (r.number == number)) self.old }
     {
         match &mut self.kept {
-            Kept::Scanned(rows) => rows.remove(number),
-            Kept::Hinted(rows) => rows.remove(number),
+            Storage::Scanned(rows) => rows.remove(number),
+            Storage::Hinted(rows) => rows.remove(number),
         }
     }
 
@@ -121,8 +123,8 @@ impl Rows {
         ensures { self.new ≡ filter (λ r. not (has numbers.now r.number)) self.old }
     {
         match &mut self.kept {
-            Kept::Scanned(rows) => rows.remove_all(numbers),
-            Kept::Hinted(rows) => rows.remove_all(numbers),
+            Storage::Scanned(rows) => rows.remove_all(numbers),
+            Storage::Hinted(rows) => rows.remove_all(numbers),
         }
     }
 
@@ -131,48 +133,48 @@ impl Rows {
         ensures { self.new ≡ filter (λ r. not (r.space == space)) self.old }
     {
         match &mut self.kept {
-            Kept::Scanned(rows) => rows.clear(space),
-            Kept::Hinted(rows) => rows.clear(space),
+            Storage::Scanned(rows) => rows.clear(space),
+            Storage::Hinted(rows) => rows.clear(space),
         }
     }
 
     // ---- what is learned
 
-    /// Rows of the space were searched for by a template of these fields, and the last that was found has
-    /// this number. Where many had to be looked at, more is learned of how to find such ones sooner; where
-    /// memory is refused it isn't.
+    /// Rows of the space were searched for by a template of these fields, and the last that was
+    /// found has this number. Where many had to be looked at, more is learned of how to find such
+    /// ones sooner; where memory is refused it isn't.
     pub fn learn(&mut self, space: u64, fields: &[(Text, Value)], last: Option<u64>)
         ensures { self.new ≡ self.old }
     {
         match &mut self.kept {
             // Each row is looked at.
-            Kept::Scanned(_) => {}
-            Kept::Hinted(rows) => rows.learn(space, fields, last),
+            Storage::Scanned(_) => {}
+            Storage::Hinted(rows) => rows.learn(space, fields, last),
         }
     }
 
-    // ---- leave out and change. Only to record a decision takes memory, and none is needed: where it is
-    // refused, the decision is applied at once.
+    // ---- leave out and change. Only to record a decision takes memory, and none is needed: where
+    // it is refused, the decision is applied at once.
 
-    /// The transaction aborts: the rows that it wrote go, and so do its marks. Rows that are found by
-    /// hints follow when their space applies it.
+    /// The transaction aborts: the rows that it wrote go, and so do its marks. Rows that are found
+    /// by hints follow when their space applies it.
     pub fn abort(&mut self, x: u64)
         ensures { self.new ≡ aborted x self.old }
     {
         match &mut self.kept {
-            Kept::Scanned(rows) => rows.abort(x),
-            Kept::Hinted(rows) => rows.abort(x),
+            Storage::Scanned(rows) => rows.abort(x),
+            Storage::Hinted(rows) => rows.abort(x),
         }
     }
 
-    /// The transaction commits: the rows that it took go, and so do its marks. Rows that are found by
-    /// hints follow when their space applies it.
+    /// The transaction commits: the rows that it took go, and so do its marks. Rows that are found
+    /// by hints follow when their space applies it.
     pub fn commit(&mut self, x: u64)
         ensures { self.new ≡ committed x self.old }
     {
         match &mut self.kept {
-            Kept::Scanned(rows) => rows.commit(x),
-            Kept::Hinted(rows) => rows.commit(x),
+            Storage::Scanned(rows) => rows.commit(x),
+            Storage::Hinted(rows) => rows.commit(x),
         }
     }
 
@@ -181,27 +183,27 @@ impl Rows {
     /// How many decisions the space hasn't applied, a reset among them.
     pub fn pending(&self, space: u64) -> usize {
         match &self.kept {
-            Kept::Scanned(_) => 0,
-            Kept::Hinted(rows) => rows.pending(space),
+            Storage::Scanned(_) => 0,
+            Storage::Hinted(rows) => rows.pending(space),
         }
     }
 
     /// Whether any space has one that it hasn't applied.
     pub fn has_pending(&self) -> bool {
         match &self.kept {
-            Kept::Scanned(_) => false,
-            Kept::Hinted(rows) => rows.has_pending(),
+            Storage::Scanned(_) => false,
+            Storage::Hinted(rows) => rows.has_pending(),
         }
     }
 
-    /// The space applies all decisions that it hasn't applied, a reset too, which none of the other calls can
-    /// tell.
+    /// The space applies all decisions that it hasn't applied, a reset too, which none of the other
+    /// calls can tell.
     pub fn apply_in(&mut self, space: u64)
         ensures { self.new ≡ self.old }
     {
         match &mut self.kept {
-            Kept::Scanned(_) => {}
-            Kept::Hinted(rows) => rows.apply_in(space),
+            Storage::Scanned(_) => {}
+            Storage::Hinted(rows) => rows.apply_in(space),
         }
     }
 
@@ -210,41 +212,41 @@ impl Rows {
         ensures { self.new ≡ self.old }
     {
         match &mut self.kept {
-            Kept::Scanned(_) => {}
-            Kept::Hinted(rows) => rows.apply_unless_cleared(space),
+            Storage::Scanned(_) => {}
+            Storage::Hinted(rows) => rows.apply_unless_cleared(space),
         }
     }
 
-    /// The space applies some of them, in a time that doesn't grow with how many rows they change. Whether it
-    /// has applied all.
+    /// The space applies some of them, in a time that doesn't grow with how many rows they change.
+    /// Whether it has applied all.
     pub fn apply_part(&mut self, space: u64) -> bool
         ensures { self.new ≡ self.old }
     {
         match &mut self.kept {
-            Kept::Scanned(_) => true,
-            Kept::Hinted(rows) => rows.apply_part(space),
+            Storage::Scanned(_) => true,
+            Storage::Hinted(rows) => rows.apply_part(space),
         }
     }
 
-    /// The space of a row that ends by then and comes first applies some of them. Whether it has none to
-    /// apply.
+    /// The space of a row that ends by then and comes first applies some of them. Whether it has
+    /// none to apply.
     pub fn apply_due_part(&mut self, time: u64) -> bool
         ensures { self.new ≡ self.old }
     {
         match &mut self.kept {
-            Kept::Scanned(_) => true,
-            Kept::Hinted(rows) => rows.apply_due_part(time),
+            Storage::Scanned(_) => true,
+            Storage::Hinted(rows) => rows.apply_due_part(time),
         }
     }
 
-    /// Where rows end that are about to be changed by decisions, their spaces apply them, so that what
-    /// is due is found without a look at all rows.
+    /// Where rows end that are about to be changed by decisions, their spaces apply them, so that
+    /// what is due is found without a look at all rows.
     pub fn apply_due(&mut self, time: u64)
         ensures { self.new ≡ self.old }
     {
         match &mut self.kept {
-            Kept::Scanned(_) => {}
-            Kept::Hinted(rows) => rows.apply_due(time),
+            Storage::Scanned(_) => {}
+            Storage::Hinted(rows) => rows.apply_due(time),
         }
     }
 
@@ -253,8 +255,8 @@ impl Rows {
         ensures { self.new ≡ self.old }
     {
         match &mut self.kept {
-            Kept::Scanned(_) => {}
-            Kept::Hinted(rows) => rows.apply_all(),
+            Storage::Scanned(_) => {}
+            Storage::Hinted(rows) => rows.apply_all(),
         }
     }
 
@@ -265,8 +267,8 @@ impl Rows {
         ensures { self.new ≡ released vote x space self.old }
     {
         match &mut self.kept {
-            Kept::Scanned(rows) => rows.release(vote, x, space),
-            Kept::Hinted(rows) => rows.release(vote, x, space),
+            Storage::Scanned(rows) => rows.release(vote, x, space),
+            Storage::Hinted(rows) => rows.release(vote, x, space),
         }
     }
 
@@ -276,8 +278,8 @@ impl Rows {
         ensures err { OnErr result (self.new ≡ self.old) }
     {
         match &mut self.kept {
-            Kept::Scanned(rows) => rows.take(numbers, x),
-            Kept::Hinted(rows) => rows.take(numbers, x),
+            Storage::Scanned(rows) => rows.take(numbers, x),
+            Storage::Hinted(rows) => rows.take(numbers, x),
         }
     }
 
@@ -286,8 +288,8 @@ impl Rows {
         ensures { self.new ≡ map (row_ending number end) self.old }
     {
         match &mut self.kept {
-            Kept::Scanned(rows) => rows.extend(number, end),
-            Kept::Hinted(rows) => rows.extend(number, end),
+            Storage::Scanned(rows) => rows.extend(number, end),
+            Storage::Hinted(rows) => rows.extend(number, end),
         }
     }
 
@@ -298,8 +300,8 @@ impl Rows {
         ensures err { OnErr result (self.new ≡ self.old) }
     {
         match &mut self.kept {
-            Kept::Scanned(rows) => rows.read(below, number, x),
-            Kept::Hinted(rows) => rows.read(number, x),
+            Storage::Scanned(rows) => rows.read(below, number, x),
+            Storage::Hinted(rows) => rows.read(number, x),
         }
     }
 
@@ -310,8 +312,8 @@ impl Rows {
         ensures { option_map unmarked (option_copied result) ≡ option_map unmarked (find (λ r. r.number == number) self.now) }
     {
         match &self.kept {
-            Kept::Scanned(rows) => rows.get(number),
-            Kept::Hinted(rows) => rows.get(number),
+            Storage::Scanned(rows) => rows.get(number),
+            Storage::Hinted(rows) => rows.get(number),
         }
     }
 
@@ -320,8 +322,8 @@ impl Rows {
         ensures { result ≡ list_any (λ r. r.number == number) self.now }
     {
         match &self.kept {
-            Kept::Scanned(rows) => rows.has(number),
-            Kept::Hinted(rows) => rows.has(number),
+            Storage::Scanned(rows) => rows.has(number),
+            Storage::Hinted(rows) => rows.has(number),
         }
     }
 
@@ -330,8 +332,8 @@ impl Rows {
         ensures { result ≡ length (filter (λ r. r.space == space) self.now) }
     {
         match &self.kept {
-            Kept::Scanned(rows) => rows.count_in(space),
-            Kept::Hinted(rows) => rows.count_in(space),
+            Storage::Scanned(rows) => rows.count_in(space),
+            Storage::Hinted(rows) => rows.count_in(space),
         }
     }
 
@@ -340,27 +342,28 @@ impl Rows {
         ensures { result ≡ list_any (λ r. r.space == space && (calls r.writer x || calls r.taker x)) self.now }
     {
         match &self.kept {
-            Kept::Scanned(rows) => rows.has_changed(x, space),
-            Kept::Hinted(rows) => rows.has_changed(x, space),
+            Storage::Scanned(rows) => rows.has_changed(x, space),
+            Storage::Hinted(rows) => rows.has_changed(x, space),
         }
     }
 
-    /// Copies of the rows that the transaction's commit publishes: it wrote them and didn't take them.
+    /// Copies of the rows that the transaction's commit publishes: it wrote them and didn't take
+    /// them.
     pub fn published(&self, alloc: Global, x: u64) -> Result<Vec<Row>, NoMemory>
         ensures { IfOk result (λ v. v.items ≡ publishes x self.now) }
     {
         match &self.kept {
-            Kept::Scanned(rows) => rows.published(alloc, x),
-            Kept::Hinted(rows) => rows.published(alloc, x),
+            Storage::Scanned(rows) => rows.published(alloc, x),
+            Storage::Hinted(rows) => rows.published(alloc, x),
         }
     }
 
-    /// How many numbers `held_by` would answer, in the time that the spaces of the transaction take; none where
-    /// rows are looked at one by one.
+    /// How many numbers `held_by` would answer, in the time that the spaces of the transaction
+    /// take; none where rows are looked at one by one.
     pub fn held_count(&self, x: u64, space: Option<u64>) -> usize {
         match &self.kept {
-            Kept::Scanned(_) => 0,
-            Kept::Hinted(rows) => rows.held_count(x, space),
+            Storage::Scanned(_) => 0,
+            Storage::Hinted(rows) => rows.held_count(x, space),
         }
     }
 
@@ -370,8 +373,8 @@ impl Rows {
         ensures { IfOk result (λ v. IsTrue (list_all (λ r. not (is_of space r && is_held x r) || has v.items r.number) self.now)) }
     {
         match &self.kept {
-            Kept::Scanned(rows) => rows.held_by(alloc, x, space),
-            Kept::Hinted(rows) => rows.held_by(alloc, x, space),
+            Storage::Scanned(rows) => rows.held_by(alloc, x, space),
+            Storage::Hinted(rows) => rows.held_by(alloc, x, space),
         }
     }
 
@@ -380,8 +383,8 @@ impl Rows {
         ensures { result ≡ first_item (over_by time (map row_end self.now)) }
     {
         match &self.kept {
-            Kept::Scanned(rows) => rows.due(time),
-            Kept::Hinted(rows) => rows.due(time),
+            Storage::Scanned(rows) => rows.due(time),
+            Storage::Hinted(rows) => rows.due(time),
         }
     }
 
@@ -391,8 +394,8 @@ impl Rows {
         ensures { (p : Option ℕ → Bool) → ((x : Option ℕ) (b : Bool) → FnReturns F.Fn test (x, tt) b → b ≡ p x) → result ≡ list_any (λ r. r.number == number && p r.writer) self.now }
     {
         match &self.kept {
-            Kept::Scanned(rows) => rows.is_written(number, test),
-            Kept::Hinted(rows) => rows.is_written(number, test),
+            Storage::Scanned(rows) => rows.is_written(number, test),
+            Storage::Hinted(rows) => rows.is_written(number, test),
         }
     }
 
@@ -401,8 +404,8 @@ impl Rows {
         ensures { IfOk result (λ v. v.items ≡ map (λ r. r.space) (filter (λ r. r.number == number) self.now)) }
     {
         match &self.kept {
-            Kept::Scanned(rows) => rows.spaces_of(alloc, number),
-            Kept::Hinted(rows) => rows.spaces_of(alloc, number),
+            Storage::Scanned(rows) => rows.spaces_of(alloc, number),
+            Storage::Hinted(rows) => rows.spaces_of(alloc, number),
         }
     }
 
@@ -411,8 +414,8 @@ impl Rows {
         ensures { IfOk result (λ es. es ≡ entries_among numbers.now self.now) }
     {
         match &self.kept {
-            Kept::Scanned(rows) => rows.entries_of(alloc, numbers),
-            Kept::Hinted(rows) => rows.entries_of(alloc, numbers),
+            Storage::Scanned(rows) => rows.entries_of(alloc, numbers),
+            Storage::Hinted(rows) => rows.entries_of(alloc, numbers),
         }
     }
 
@@ -421,8 +424,8 @@ impl Rows {
         ensures { result ≡ (length (offered_among classes.now blocked.now self.now) == 0) }
     {
         match &self.kept {
-            Kept::Scanned(rows) => rows.has_none(classes, blocked),
-            Kept::Hinted(rows) => rows.has_none(classes, blocked),
+            Storage::Scanned(rows) => rows.has_none(classes, blocked),
+            Storage::Hinted(rows) => rows.has_none(classes, blocked),
         }
     }
 
@@ -431,8 +434,8 @@ impl Rows {
         ensures { result ≡ list_any (held classes.now blocked.now) self.now }
     {
         match &self.kept {
-            Kept::Scanned(rows) => rows.has_conflict(classes, blocked),
-            Kept::Hinted(rows) => rows.has_conflict(classes, blocked),
+            Storage::Scanned(rows) => rows.has_conflict(classes, blocked),
+            Storage::Hinted(rows) => rows.has_conflict(classes, blocked),
         }
     }
 
@@ -446,8 +449,8 @@ impl Rows {
         ensures { IfOk result (λ ns. ns ≡ take blocked.now.most (offered_among classes.now blocked.now self.now)) }
     {
         match &self.kept {
-            Kept::Scanned(rows) => rows.choose(alloc, classes, blocked),
-            Kept::Hinted(rows) => rows.choose(alloc, classes, blocked),
+            Storage::Scanned(rows) => rows.choose(alloc, classes, blocked),
+            Storage::Hinted(rows) => rows.choose(alloc, classes, blocked),
         }
     }
 
@@ -456,8 +459,8 @@ impl Rows {
         ensures { result ≡ min blocked.now.most (length (offered_among classes.now blocked.now self.now)) }
     {
         match &self.kept {
-            Kept::Scanned(rows) => rows.count_choice(classes, blocked),
-            Kept::Hinted(rows) => rows.count_choice(classes, blocked),
+            Storage::Scanned(rows) => rows.count_choice(classes, blocked),
+            Storage::Hinted(rows) => rows.count_choice(classes, blocked),
         }
     }
 
@@ -466,8 +469,8 @@ impl Rows {
         ensures { result ≡ option_map_or (offered classes.now blocked.now) (find (λ r. r.number == number) self.now) false }
     {
         match &self.kept {
-            Kept::Scanned(rows) => rows.is_available(classes, blocked, number),
-            Kept::Hinted(rows) => rows.is_available(classes, blocked, number),
+            Storage::Scanned(rows) => rows.is_available(classes, blocked, number),
+            Storage::Hinted(rows) => rows.is_available(classes, blocked, number),
         }
     }
 
@@ -476,8 +479,8 @@ impl Rows {
         ensures { result ≡ has (offered_among classes.now blocked.now self.now) number }
     {
         match &self.kept {
-            Kept::Scanned(rows) => rows.may_be_given(classes, blocked, number),
-            Kept::Hinted(rows) => rows.may_be_given(classes, blocked, number),
+            Storage::Scanned(rows) => rows.may_be_given(classes, blocked, number),
+            Storage::Hinted(rows) => rows.may_be_given(classes, blocked, number),
         }
     }
 
@@ -492,8 +495,8 @@ impl Rows {
         ensures { IfOk result (λ es. es ≡ map (λ row. row.entry) (take most (filter (shows classes.now set.now) self.now))) }
     {
         match &self.kept {
-            Kept::Scanned(rows) => rows.entries_shown(alloc, classes, set, most),
-            Kept::Hinted(rows) => rows.entries_shown(alloc, classes, set, most),
+            Storage::Scanned(rows) => rows.entries_shown(alloc, classes, set, most),
+            Storage::Hinted(rows) => rows.entries_shown(alloc, classes, set, most),
         }
     }
 
@@ -502,8 +505,8 @@ impl Rows {
         ensures { result ≡ nat_lt most (length (filter (shows classes.now set.now) self.now)) }
     {
         match &self.kept {
-            Kept::Scanned(rows) => rows.shows_more(classes, set, most),
-            Kept::Hinted(rows) => rows.shows_more(classes, set, most),
+            Storage::Scanned(rows) => rows.shows_more(classes, set, most),
+            Storage::Hinted(rows) => rows.shows_more(classes, set, most),
         }
     }
 
@@ -512,8 +515,8 @@ impl Rows {
         ensures { result ≡ last_or None (map (λ row. row.number) (take most (filter (shows classes.now set.now) self.now))) }
     {
         match &self.kept {
-            Kept::Scanned(rows) => rows.last_shown(classes, set, most),
-            Kept::Hinted(rows) => rows.last_shown(classes, set, most),
+            Storage::Scanned(rows) => rows.last_shown(classes, set, most),
+            Storage::Hinted(rows) => rows.last_shown(classes, set, most),
         }
     }
 }

@@ -31,7 +31,8 @@ pub(crate) fn next_of_few_from(numbers: &[u64], place: &mut usize, number: u64) 
     numbers.get(found).copied()
 }
 
-/// The place of the first number above this one, which is this one where the number stands before it.
+/// The place of the first number above this one, which is this one where the number stands before
+/// it.
 fn place_from(numbers: &[u64], place: usize, number: u64) -> usize
     requires { AreIncreasing numbers.now }
     ensures within { result ≤ length numbers.now }

@@ -1,7 +1,7 @@
 //! Numbers in rising order.
 ghost use Rattle.std.specs.Prelude.{◌≡◌, ◌≢◌, ◌==◌, ℕ, true, [], length, find, nat_lt, IfOk, OnOk};
 ghost use Rattle.jsp_table.specs.Numbers.{contains, AreIncreasing};
-ghost use Rattle.jsp_table.specs.Kept.{numbers_in};
+ghost use Rattle.jsp_table.specs.Storage.{numbers_in};
 
 use crate::NoMemory;
 use crate::few::{add_to_few, are_few_with, few_of_two, next_of_few, remove_from_few};
@@ -22,12 +22,12 @@ const MOST_FEW: usize = 256;
 #[derive(Drop)]
 pub struct Numbers {
     alloc: Global,
-    kept: Kept,
+    kept: Storage,
 }
 
 /// How numbers are kept.
 #[derive(Drop)]
-pub(crate) enum Kept {
+pub(crate) enum Storage {
     Empty,
     One(u64),
     Few(Box<Vec<u64>>),
@@ -37,7 +37,7 @@ pub(crate) enum Kept {
 impl Model for Numbers {
     ghost use Rattle.std.specs.Prelude.{List, ℕ};
     ghost use Rattle.jsp_table.specs.Numbers.{AreIncreasing};
-    ghost use Rattle.jsp_table.specs.Kept.{numbers_in};
+    ghost use Rattle.jsp_table.specs.Storage.{numbers_in};
 
     ghost Value = { List ℕ };
 
@@ -53,7 +53,7 @@ impl Numbers {
     {
         Numbers {
             alloc,
-            kept: Kept::Empty,
+            kept: Storage::Empty,
         }
     }
 
@@ -63,10 +63,10 @@ impl Numbers {
         ensures increasing { AreIncreasing self.now }
     {
         match &self.kept {
-            Kept::Empty => 0,
-            Kept::One(_) => 1,
-            Kept::Few(numbers) => numbers.len(),
-            Kept::Many(numbers) => numbers.len(),
+            Storage::Empty => 0,
+            Storage::One(_) => 1,
+            Storage::Few(numbers) => numbers.len(),
+            Storage::Many(numbers) => numbers.len(),
         }
     }
 
@@ -82,10 +82,10 @@ impl Numbers {
         ensures { result ≡ contains self.now number }
     {
         match &self.kept {
-            Kept::Empty => false,
-            Kept::One(one) => *one == number,
-            Kept::Few(numbers) => are_few_with(numbers, number),
-            Kept::Many(numbers) => are_many_with(numbers, number),
+            Storage::Empty => false,
+            Storage::One(one) => *one == number,
+            Storage::Few(numbers) => are_few_with(numbers, number),
+            Storage::Many(numbers) => are_many_with(numbers, number),
         }
     }
 
@@ -94,10 +94,10 @@ impl Numbers {
         ensures { IfOk result (λ v. v.items ≡ self.now) }
     {
         let copies = match &self.kept {
-            Kept::Empty => Vec::new(alloc),
-            Kept::One(one) => slice::from_ref(one).iter().copied().collect(alloc)?,
-            Kept::Few(numbers) => numbers.iter().copied().collect(alloc)?,
-            Kept::Many(numbers) => numbers.iter().copied().collect(alloc)?,
+            Storage::Empty => Vec::new(alloc),
+            Storage::One(one) => slice::from_ref(one).iter().copied().collect(alloc)?,
+            Storage::Few(numbers) => numbers.iter().copied().collect(alloc)?,
+            Storage::Many(numbers) => numbers.iter().copied().collect(alloc)?,
         };
         Ok(copies)
     }
@@ -108,15 +108,15 @@ impl Numbers {
         ensures increasing { AreIncreasing self.now }
     {
         match &self.kept {
-            Kept::Empty => None,
-            Kept::One(one) => next_of_few(slice::from_ref(one), number),
-            Kept::Few(numbers) => next_of_few(numbers, number),
-            Kept::Many(numbers) => next_of_many(numbers, number),
+            Storage::Empty => None,
+            Storage::One(one) => next_of_few(slice::from_ref(one), number),
+            Storage::Few(numbers) => next_of_few(numbers, number),
+            Storage::Many(numbers) => next_of_many(numbers, number),
         }
     }
 
     /// How they are kept.
-    pub(crate) fn kept(&self) -> &Kept
+    pub(crate) fn kept(&self) -> &Storage
         ensures same { numbers_in result.now ≡ self.now }
         ensures increasing { AreIncreasing self.now }
     {
@@ -141,58 +141,58 @@ impl Numbers {
 }
 
 /// Makes a tree of as many numbers as may stand next to one another.
-fn make_way(alloc: Global, kept: &mut Kept) -> Result<(), NoMemory>
+fn make_way(alloc: Global, kept: &mut Storage) -> Result<(), NoMemory>
     requires { AreIncreasing (numbers_in kept.old) }
     ensures increasing { AreIncreasing (numbers_in kept.new) }
     ensures keeps { (m : ℕ) → contains (numbers_in kept.old) m ≡ true → contains (numbers_in kept.new) m ≡ true }
 {
-    if let Kept::Few(numbers) = kept {
+    if let Storage::Few(numbers) = kept {
         if numbers.len() >= MOST_FEW {
             let many = many_of(alloc, numbers.as_slice())?;
-            *kept = Kept::Many(many);
+            *kept = Storage::Many(many);
         }
     }
     Ok(())
 }
 
 /// Adds a number, if it isn't there.
-fn add_to(alloc: Global, kept: &mut Kept, number: u64) -> Result<(), NoMemory>
+fn add_to(alloc: Global, kept: &mut Storage, number: u64) -> Result<(), NoMemory>
     requires { AreIncreasing (numbers_in kept.old) }
     ensures increasing { AreIncreasing (numbers_in kept.new) }
     ensures ok { OnOk result (contains (numbers_in kept.new) number ≡ true) }
     ensures keeps { (m : ℕ) → contains (numbers_in kept.old) m ≡ true → contains (numbers_in kept.new) m ≡ true }
 {
     match kept {
-        Kept::Empty => {
-            *kept = Kept::One(number);
+        Storage::Empty => {
+            *kept = Storage::One(number);
             Ok(())
         }
-        Kept::One(one) => {
+        Storage::One(one) => {
             if *one != number {
                 let few = few_of_two(alloc, *one, number)?;
-                *kept = Kept::Few(Box::new(alloc, few)?);
+                *kept = Storage::Few(Box::new(alloc, few)?);
             }
             Ok(())
         }
-        Kept::Few(numbers) => add_to_few(&mut **numbers, number),
-        Kept::Many(numbers) => add_to_many(&mut **numbers, number),
+        Storage::Few(numbers) => add_to_few(&mut **numbers, number),
+        Storage::Many(numbers) => add_to_many(&mut **numbers, number),
     }
 }
 
 /// Takes a number out, if it is there. Takes no memory.
-fn remove_from(kept: &mut Kept, number: u64)
+fn remove_from(kept: &mut Storage, number: u64)
     requires { AreIncreasing (numbers_in kept.old) }
     ensures increasing { AreIncreasing (numbers_in kept.new) }
     ensures keeps { (m : ℕ) → m ≢ number → contains (numbers_in kept.old) m ≡ true → contains (numbers_in kept.new) m ≡ true }
 {
     match kept {
-        Kept::Empty => {}
-        Kept::One(one) => {
+        Storage::Empty => {}
+        Storage::One(one) => {
             if *one == number {
-                *kept = Kept::Empty;
+                *kept = Storage::Empty;
             }
         }
-        Kept::Few(numbers) => remove_from_few(&mut **numbers, number),
-        Kept::Many(numbers) => remove_from_many(&mut **numbers, number),
+        Storage::Few(numbers) => remove_from_few(&mut **numbers, number),
+        Storage::Many(numbers) => remove_from_many(&mut **numbers, number),
     }
 }

@@ -7,7 +7,7 @@ ghost use Rattle.jsp_table.specs.Finding.{numbered, without, is_hit, AreNumbered
 ghost use Rattle.jsp_table.specs.Places.{living, AreKept, AreOver};
 
 use crate::few::next_of_few_from;
-use crate::numbers::Kept;
+use crate::numbers::Storage;
 use crate::room::make_room;
 use crate::{NoMemory, Numbers};
 use std::alloc::Global;
@@ -85,8 +85,8 @@ impl<T, N: Numbering<T>> Table<T, N> {
         }
     }
 
-    /// Adds things whose numbers rise above all others, whole or not at all. Where memory is refused
-    /// they stay with the caller.
+    /// Adds things whose numbers rise above all others, whole or not at all. Where memory is
+    /// refused they stay with the caller.
     pub fn append(&mut self, things: &mut Vec<T>) -> Result<(), NoMemory>
     where
         T: Drop,
@@ -364,10 +364,10 @@ fn first_named<'a, T, N: Numbering<T>, P: Test<T>>(
     ensures { option_copied result ≡ find (is_hit N.number_of (P.is_passed test.now) numbers.now after) table.now }
 {
     match numbers.kept() {
-        Kept::Empty => first_of_few(table, &[], after, test),
-        Kept::One(one) => first_of_few(table, slice::from_ref(one), after, test),
-        Kept::Few(few) => first_of_few(table, few, after, test),
-        Kept::Many(many) => first_of_many(table, many, after, test),
+        Storage::Empty => first_of_few(table, &[], after, test),
+        Storage::One(one) => first_of_few(table, slice::from_ref(one), after, test),
+        Storage::Few(few) => first_of_few(table, few, after, test),
+        Storage::Many(many) => first_of_many(table, many, after, test),
     }
 }
 

@@ -1,6 +1,6 @@
 //! What no contract of the crates below the house says: that calls which take memory succeed where
-//! there is memory, what JSON and HTTP are by texts from elsewhere, how readers and writers fail, when
-//! news is told, and who is woken.
+//! there is memory, what JSON and HTTP are by texts from elsewhere, how readers and writers fail,
+//! when news is told, and who is woken.
 //!
 //! A crate that has tests is proved once more with them. So these stand above all that they call,
 //! and call public items alone.

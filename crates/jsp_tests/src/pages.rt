@@ -1,5 +1,5 @@
-//! A status as a page, as metrics and as JSON, and what is answered over HTTP. The texts were worked
-//! out by hand.
+//! A status as a page, as metrics and as JSON, and what is answered over HTTP. The texts were
+//! worked out by hand.
 use jsp_status::{
     Chart, ConnectionCounts, ConnectionStatus, Point, Rates, RefusalCount, Scale, SpaceStatus,
     Status, answer_so_far, serve, to_json, to_metrics, to_page,

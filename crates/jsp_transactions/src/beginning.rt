@@ -9,8 +9,8 @@ use jsp_model::Transaction;
 use jsp_types::{Items, NoMemory};
 use std::alloc::Global;
 
-/// A transaction begins, with a lease of the time that is granted for the asked one, in milliseconds
-/// (`jsp_lease::granted`). No space has joined it. Gives its number.
+/// A transaction begins, with a lease of the time that is granted for the asked one, in
+/// milliseconds (`jsp_lease::granted`). No space has joined it. Gives its number.
 ///
 /// # Errors
 ///

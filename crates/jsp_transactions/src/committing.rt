@@ -9,8 +9,8 @@ use jsp_model::Commit;
 use jsp_types::{Items, NoMemory};
 use std::alloc::Global;
 
-/// The session's request of this id asks for the commit. From then on the transaction is voting: its
-/// blocked requests and match sets go. Only the commit that is noted takes memory.
+/// The session's request of this id asks for the commit. From then on the transaction is voting:
+/// its blocked requests and match sets go. Only the commit that is noted takes memory.
 ///
 /// # Errors
 ///

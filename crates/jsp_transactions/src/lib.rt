@@ -1,5 +1,5 @@
-//! What changes a state when transactions begin, are joined, vote and end, and what goes when a lease
-//! ends or a space is reset.
+//! What changes a state when transactions begin, are joined, vote and end, and what goes when a
+//! lease ends or a space is reset.
 //!
 //! Each function's contract is the definition of `jsp_model/specs/Changes` itself: the state after
 //! a commit is `commit` of the state before it, and so on. What takes memory is whole or not at

@@ -10,8 +10,8 @@ use jsp_model::Space;
 
 /// The space starts anew, as after a crash (this profile's own): its rows, registrations and match
 /// sets go, and the requests under a transaction that wait there; those without one go on waiting.
-/// It counts the crash, so that it votes to abort where it had joined. Takes no memory. The caller's
-/// condition: each space counts fewer than 2^32 crashes.
+/// It counts the crash, so that it votes to abort where it had joined. Takes no memory. The
+/// caller's condition: each space counts fewer than 2^32 crashes.
 pub fn reset(state: &mut Core, space: u64)
     requires { IsTrue (list_all (λ p. nat_le p.crash_count LAST_CRASH_COUNT) state.old.spaces) }
     ensures { state.new ≡ after_reset state.old space }

@@ -9,8 +9,8 @@ use jsp_model::{Joined, Vote};
 use jsp_state::{crash_count, joined_at};
 
 /// The space votes, if it joined the transaction: to abort where it was reset since, to commit with
-/// its changes where the transaction wrote or took there, and else that nothing is changed; then its
-/// read marks of the transaction go at once (Jini Transactions). Takes no memory.
+/// its changes where the transaction wrote or took there, and else that nothing is changed; then
+/// its read marks of the transaction go at once (Jini Transactions). Takes no memory.
 pub fn cast_vote(state: &mut Core, x: u64, space: u64)
     ensures { state.new ≡ after_vote state.old x space }
 {

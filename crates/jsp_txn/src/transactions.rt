@@ -8,7 +8,7 @@ ghost use Rattle.jsp_txn.specs.Voting.{voting};
 ghost use Rattle.jsp_txn.specs.Ending.{transaction_end, transaction_ending};
 
 use crate::by_number::ByNumber;
-use crate::changing::{CastVote, EndAt, Join, Leave};
+use crate::transaction_changes::{CastVote, EndAt, Join, Leave};
 use jsp_lease::Item;
 use jsp_list::IndexedList;
 use jsp_model::{Joined, Transaction, Vote};
@@ -42,8 +42,8 @@ impl Transactions {
         }
     }
 
-    /// No transactions; they will be found by hints. The hints' keys come from the seed, which clients
-    /// aren't to know.
+    /// No transactions; they will be found by hints. The hints' keys come from the seed, which
+    /// clients aren't to know.
     pub fn new(alloc: Global, seed: u64) -> Self
         ensures { result ≡ [] }
     {
@@ -112,8 +112,8 @@ impl Transactions {
         self.list.try_change(x, &Join { joined }, &Leave {})
     }
 
-    /// The space that joined the transaction of this number last leaves it, which takes a join back.
-    /// Takes no memory.
+    /// The space that joined the transaction of this number last leaves it, which takes a join
+    /// back. Takes no memory.
     pub fn leave(&mut self, x: u64)
         ensures { self.new ≡ update (λ t. t.number == x) without_last self.old }
     {
@@ -173,8 +173,8 @@ impl Transactions {
         self.list.any(test)
     }
 
-    /// The transaction whose end has come by this time, in milliseconds of house time, and comes first,
-    /// as an item.
+    /// The transaction whose end has come by this time, in milliseconds of house time, and comes
+    /// first, as an item.
     pub fn due(&self, time: u64) -> Option<Item>
         ensures { result ≡ first_item (over_by time (map transaction_end self.now)) }
     {

@@ -67,8 +67,8 @@ fn known_of(
     )
 }
 
-/// Keeps a class of a new name as the last, notes its place, and notes its name below each above it.
-/// On `Err` no class more is kept.
+/// Keeps a class of a new name as the last, notes its place, and notes its name below each above
+/// it. On `Err` no class more is kept.
 fn keep(
     alloc: Global,
     known: &mut Items<Shared>,
@@ -93,8 +93,8 @@ fn keep(
 }
 
 impl Classes {
-    /// Adds a class that isn't refused, or none where it is declared alike already. On `Err` nothing is
-    /// changed.
+    /// Adds a class that isn't refused, or none where it is declared alike already. On `Err`
+    /// nothing is changed.
     pub fn add(&mut self, class: Class) -> Result<(), NoMemory>
         requires { class_fault self.old class ≡ None }
         ensures ok { OnOk result (self.new ≡ declared self.old class) }
@@ -116,9 +116,9 @@ impl Classes {
         Ok(())
     }
 
-    /// Declares the class of these fields, in whatever order they are given, or says why it is refused,
-    /// as `fault` does (`DeclareError::Fault`). The same declaration again is `Ok`. `NoMemory` may come
-    /// in place of any other answer. On `Err` nothing is changed.
+    /// Declares the class of these fields, in whatever order they are given, or says why it is
+    /// refused, as `fault` does (`DeclareError::Fault`). The same declaration again is `Ok`.
+    /// `NoMemory` may come in place of any other answer. On `Err` nothing is changed.
     pub fn declare(
         &mut self,
         name: &str,

@@ -118,9 +118,9 @@ fn accepting<'a>(classes: &'a Classes, raw: &Raw) -> Result<&'a Known, EntryFaul
     Ok(known)
 }
 
-/// Why an entry is refused, the first fault that applies: its class isn't declared (`UnknownClass`),
-/// or it gives a field twice, a field that the class hasn't or a value of another kind, or its texts
-/// are past 8,192 bytes together (`BadEntry`). Takes no memory.
+/// Why an entry is refused, the first fault that applies: its class isn't declared
+/// (`UnknownClass`), or it gives a field twice, a field that the class hasn't or a value of another
+/// kind, or its texts are past 8,192 bytes together (`BadEntry`). Takes no memory.
 pub fn entry_fault(classes: &Classes, raw: &Raw) -> Option<EntryFault>
     ensures { result ≡ entry_fault classes.now raw.now }
 {

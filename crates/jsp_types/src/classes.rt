@@ -26,7 +26,7 @@ impl Model for Classes {
     ghost use Rattle.std.specs.Prelude.{List};
     ghost use Rattle.jsp_types.specs.declared.class.Class.{Class};
     ghost use Rattle.jsp_types.specs.Known.{classes_of};
-    ghost use Rattle.jsp_types.specs.Kept.{AreKeptWith};
+    ghost use Rattle.jsp_types.specs.Storage.{AreKeptWith};
 
     ghost Value = { List Class };
 
@@ -162,8 +162,8 @@ impl Classes {
             }
     }
 
-    /// The class, its parent, its parent's parent and so on, at most 16, or none where it isn't declared. Takes no
-    /// memory.
+    /// The class, its parent, its parent's parent and so on, at most 16, or none where it isn't
+    /// declared. Takes no memory.
     pub fn line_of(&self, class: &str) -> Option<&[Text]>
         ensures { option_copied result ≡ (if is_declared self.now class.now then Some (line_of self.now class.now) else None) }
     {
@@ -173,9 +173,9 @@ impl Classes {
         }
     }
 
-    /// The names of the classes that have this one in their line of descent, itself apart, in the order
-    /// of their declarations. A class whose declaration was refused memory may be named too. Takes no
-    /// memory.
+    /// The names of the classes that have this one in their line of descent, itself apart, in the
+    /// order of their declarations. A class whose declaration was refused memory may be named too.
+    /// Takes no memory.
     pub fn below(&self, name: &str) -> &[Text]
         ensures { (c : List ℕ) → is_sub self.now c name.now ≡ true
             → (bytes_eq c name.now || list_any (bytes_eq c) result.now) ≡ true }
@@ -183,7 +183,8 @@ impl Classes {
         self.descendants.get(name)
     }
 
-    /// The class's fields, the inherited first, or none where the class isn't declared. Takes no memory.
+    /// The class's fields, the inherited first, or none where the class isn't declared. Takes no
+    /// memory.
     pub fn fields_of(&self, class: &str) -> Option<&[(Text, Kind)]>
         ensures fields { option_copied result ≡ declared_fields self.now class.now }
         ensures within_limits { IfSome result

@@ -21,8 +21,8 @@ fn have_names(fields: &[(Text, Kind)]) -> bool
     fields.iter().all(|field| is_name(field.0.as_str()))
 }
 
-/// Whether it has more fields than a class may have, a name isn't one, or a field's stands twice. How many there are is
-/// looked at first, so that no more than that are compared with one another.
+/// Whether it has more fields than a class may have, a name isn't one, or a field's stands twice.
+/// How many there are is looked at first, so that no more than that are compared with one another.
 fn is_ill_formed(class: &Class) -> bool
     ensures { result ≡ is_ill_formed class.now }
 {
@@ -137,11 +137,12 @@ impl Classes {
         None
     }
 
-    /// Why the class is refused, the first fault that applies: a name of the class or of a field isn't
-    /// one or stands twice (`BadClass`), the class is declared with another parent or other fields
-    /// (`Differs`), its parent isn't declared (`UnknownParent`), it has an inherited field again, is
-    /// more than 16 deep or has more than 32 fields with the inherited (`BadClass`), or 1,024 classes
-    /// are declared (`TooMany`). A class that is declared alike isn't refused. Takes no memory.
+    /// Why the class is refused, the first fault that applies: a name of the class or of a field
+    /// isn't one or stands twice (`BadClass`), the class is declared with another parent or other
+    /// fields (`Differs`), its parent isn't declared (`UnknownParent`), it has an inherited field
+    /// again, is more than 16 deep or has more than 32 fields with the inherited (`BadClass`), or
+    /// 1,024 classes are declared (`TooMany`). A class that is declared alike isn't refused. Takes
+    /// no memory.
     pub fn fault(&self, class: &Class) -> Option<ClassFault>
         ensures { result ≡ class_fault self.now class.now }
     {

@@ -7,8 +7,8 @@ use std::alloc::Global;
 use std::marker::Model;
 use std::sync::Arc;
 
-/// What is kept of a class. Contracts see it as that. Copies share it: a copy of all classes takes a word for
-/// each.
+/// What is kept of a class. Contracts see it as that. Copies share it: a copy of all classes takes
+/// a word for each.
 #[derive(Drop)]
 pub(crate) struct Shared {
     known: Arc<Known>,

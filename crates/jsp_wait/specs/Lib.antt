@@ -1,5 +1,5 @@
 pub mod Waiting
-pub mod Kept
+pub mod Storage
 pub mod Sessions
 pub mod Sought
 pub mod Offered

@@ -13,8 +13,8 @@ use jsp_sight::is_if;
 use jsp_table::Numbering;
 use jsp_types::NoMemory;
 
-/// Requests go by their numbers. Each is named under its transaction, if it has one, as one that waits
-/// for a conflict to end, if it does, and under the keys of its templates.
+/// Requests go by their numbers. Each is named under its transaction, if it has one, as one that
+/// waits for a conflict to end, if it does, and under the keys of its templates.
 #[derive(Drop)]
 pub(crate) struct ByNumber {}
 

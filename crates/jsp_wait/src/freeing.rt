@@ -1,5 +1,5 @@
-//! Who waits for a conflict to end, of requests that are found by hints: whom a row may hold up, and who
-//! isn't held up any more.
+//! Who waits for a conflict to end, of requests that are found by hints: whom a row may hold up,
+//! and who isn't held up any more.
 ghost use Rattle.std.specs.Prelude.{◌≡◌, ◌==◌, ◌&&◌, ◌||◌, [], ◌∷◌, not, find, option_copied, IfOk, IsTrue};
 ghost use Rattle.std.specs.List.{list_any, list_all};
 ghost use Rattle.jsp_types.specs.declared.class.Class.{Class};
@@ -144,7 +144,8 @@ fn is_free_of_conflicts(requests: &Requests, space: u64) -> bool
     requests.first_above(0, &OfConflicts { space }).is_none()
 }
 
-/// Numbers, among which are those of all requests that wait for a conflict to end and ask for a row.
+/// Numbers, among which are those of all requests that wait for a conflict to end and ask for a
+/// row.
 pub(crate) fn waiting_for(
     alloc: Global,
     requests: &Requests,
@@ -153,8 +154,8 @@ pub(crate) fn waiting_for(
 ) -> Result<Vec<u64>, NoMemory>
     ensures { IfOk result (λ v. IsTrue (list_all (λ b. not (waits_for classes.now row.now b) || has v.items b.number) requests.now)) }
 {
-    // Most often nobody there waits for a conflict to end, and then whoever asks for the row needn't be
-    // looked at.
+    // Most often nobody there waits for a conflict to end, and then whoever asks for the row
+    // needn't be looked at.
     if is_free_of_conflicts(requests, row.space) {
         return Ok(Vec::new(alloc));
     }
@@ -215,7 +216,8 @@ pub(crate) fn is_freed<O: Offer>(requests: &Requests, number: u64, offer: &O) ->
     first_freed_numbered(requests, number, offer).is_some()
 }
 
-/// The first at a space, of those of some numbers, that waits for a conflict to end and isn't held up.
+/// The first at a space, of those of some numbers, that waits for a conflict to end and isn't held
+/// up.
 fn first_freed_of<'a, O: Offer>(
     requests: &'a Requests,
     space: u64,
@@ -233,8 +235,8 @@ fn first_freed_of<'a, O: Offer>(
     first
 }
 
-/// The first at a space that waits for a conflict to end and isn't held up, of those of some numbers or,
-/// where none are given, of all.
+/// The first at a space that waits for a conflict to end and isn't held up, of those of some
+/// numbers or, where none are given, of all.
 pub(crate) fn first_freed<'a, O: Offer>(
     requests: &'a Requests,
     space: u64,

@@ -1,5 +1,5 @@
-//! The requests that wait, in arrival order, and the open match sets, as a program keeps them; contracts
-//! see the plain lists.
+//! The requests that wait, in arrival order, and the open match sets, as a program keeps them;
+//! contracts see the plain lists.
 //!
 //! `Waiters` and `MatchSets` have private fields. What there is to do with waiting requests is a
 //! call of one of three forms: add one, leave some out, find; match sets change in place too. The
@@ -11,13 +11,13 @@
 //! lists, takes memory.
 #![tactic(auto)]
 
-mod asking;
 mod by_number;
 mod found;
 mod freeing;
 mod keyed;
 mod match_sets;
 mod offer;
+mod request_keys;
 mod scanned;
 mod sessions;
 mod set_changes;

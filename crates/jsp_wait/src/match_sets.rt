@@ -40,8 +40,8 @@ impl MatchSets {
         }
     }
 
-    /// No match sets; they will be found by hints. The hints' keys come from the seed, which clients
-    /// aren't to know.
+    /// No match sets; they will be found by hints. The hints' keys come from the seed, which
+    /// clients aren't to know.
     pub fn new(alloc: Global, seed: u64) -> Self
         ensures { result ≡ [] }
     {
@@ -178,8 +178,8 @@ impl MatchSets {
         self.list.any_of(number, test)
     }
 
-    /// The match set whose end has come by this time, in milliseconds of house time, and comes first, as
-    /// an item.
+    /// The match set whose end has come by this time, in milliseconds of house time, and comes
+    /// first, as an item.
     pub fn due(&self, time: u64) -> Option<Item>
         ensures { result ≡ first_item (over_by time (map set_end self.now)) }
     {

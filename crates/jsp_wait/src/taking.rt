@@ -92,8 +92,8 @@ fn takes_any<O: Offer>(offer: &O, numbers: &[u64], request: &Blocked) -> bool
     numbers.iter().any(|number| offer.takes(*number, request))
 }
 
-/// Whether a request that waits for a conflict to end isn't held up, of those of some numbers or, where none
-/// are given, of all.
+/// Whether a request that waits for a conflict to end isn't held up, of those of some numbers or,
+/// where none are given, of all.
 fn frees<O: Offer>(offer: &O, among: Option<&[u64]>, request: &Blocked) -> bool
     ensures { result ≡ freed_among (O.is_freed offer.now) (option_copied among.entry) request.now }
 {
@@ -180,8 +180,8 @@ pub(crate) fn first_taker<'a, O: Offer>(
     first
 }
 
-/// The first at a space that waits no more: it may be given one of the rows, or waited for a conflict that
-/// is gone, and is one of some requests or, where none are given, any.
+/// The first at a space that waits no more: it may be given one of the rows, or waited for a
+/// conflict that is gone, and is one of some requests or, where none are given, any.
 pub(crate) fn first_stirred<'a, O: Offer>(
     requests: &'a Requests,
     space: u64,

@@ -9,11 +9,11 @@ ghost use Rattle.jsp_model.specs.Lookup.{contains as has};
 ghost use Rattle.jsp_model.specs.Sight.{is_if as waits_for_conflict};
 ghost use Rattle.jsp_wait.specs.Offered.{AskForIt, takes_one, freed_numbered, freed_among, waits_for, waits_no_more};
 
-use crate::asking::{At, Under, UnderAny, UnderIt};
 use crate::found::Found;
 use crate::freeing::{are_all_patient, is_freed, waiting_for};
 use crate::keyed::{askers, copies_of, count_waiting_at, first_at_places, space_of};
 use crate::offer::Offer;
+use crate::request_keys::{At, Under, UnderAny, UnderIt};
 use crate::scanned::{
     any_asked, any_freed, any_takes, any_waits_for_conflict, asked_at, asked_under, count_asked,
     count_waiting, drop_at, drop_numbered, drop_of, drop_under, first_numbered, first_over,
@@ -37,12 +37,12 @@ pub struct Asker {
 #[derive(Drop)]
 pub struct Waiters {
     alloc: Global,
-    kept: Kept,
+    kept: Storage,
 }
 
 /// How they are kept.
 #[derive(Drop)]
-pub(crate) enum Kept {
+pub(crate) enum Storage {
     Scanned(Vec<Blocked>),
     Keyed(Found),
 }
@@ -50,7 +50,7 @@ pub(crate) enum Kept {
 impl Model for Waiters {
     ghost use Rattle.std.specs.Prelude.{List};
     ghost use Rattle.jsp_model.specs.declared.state.Blocked.{Blocked};
-    ghost use Rattle.jsp_wait.specs.Kept.{requests_in};
+    ghost use Rattle.jsp_wait.specs.Storage.{requests_in};
 
     ghost Value = { List Blocked };
 
@@ -64,18 +64,18 @@ impl Waiters {
     {
         Waiters {
             alloc,
-            kept: Kept::Scanned(requests.into_vec()),
+            kept: Storage::Scanned(requests.into_vec()),
         }
     }
 
-    /// No requests; they will be found by hints. The keys come from the seed, which clients aren't to
-    /// know.
+    /// No requests; they will be found by hints. The keys come from the seed, which clients aren't
+    /// to know.
     pub fn new(alloc: Global, seed: u64) -> Self
         ensures { result ≡ [] }
     {
         Waiters {
             alloc,
-            kept: Kept::Keyed(Found::new(alloc, seed)),
+            kept: Storage::Keyed(Found::new(alloc, seed)),
         }
     }
 
@@ -97,8 +97,8 @@ impl Waiters {
         ensures { IfOk result (λ c. c ≡ self.now) }
     {
         match &self.kept {
-            Kept::Scanned(requests) => plain_copy(alloc, requests),
-            Kept::Keyed(found) => copies_of(alloc, found.requests.places()),
+            Storage::Scanned(requests) => plain_copy(alloc, requests),
+            Storage::Keyed(found) => copies_of(alloc, found.requests.places()),
         }
     }
 
@@ -110,15 +110,16 @@ impl Waiters {
         ensures err { OnErr result (self.new ≡ self.old) }
     {
         match &mut self.kept {
-            Kept::Scanned(requests) => {
+            Storage::Scanned(requests) => {
                 requests.push(request)?;
             }
-            Kept::Keyed(found) => {
+            Storage::Keyed(found) => {
                 if let Some(request) = found.push(request)? {
-                    // Hints are for rising numbers. The machine's rise; others are scanned from here on.
+                    // Hints are for rising numbers. The machine's rise; others are scanned from
+                    // here on.
                     let mut plain = copies_of(self.alloc, found.requests.places())?.into_vec();
                     plain.push(request)?;
-                    self.kept = Kept::Scanned(plain);
+                    self.kept = Storage::Scanned(plain);
                 }
             }
         }
@@ -132,8 +133,8 @@ impl Waiters {
         ensures { self.new ≡ filter (λ b. not (b.number == number)) self.old }
     {
         match &mut self.kept {
-            Kept::Scanned(requests) => drop_numbered(requests, number),
-            Kept::Keyed(found) => found.remove(number),
+            Storage::Scanned(requests) => drop_numbered(requests, number),
+            Storage::Keyed(found) => found.remove(number),
         }
     }
 
@@ -142,8 +143,8 @@ impl Waiters {
         ensures { self.new ≡ filter (λ b. not (b.session == session)) self.old }
     {
         match &mut self.kept {
-            Kept::Scanned(requests) => drop_of(requests, session),
-            Kept::Keyed(found) => found.remove_of(session),
+            Storage::Scanned(requests) => drop_of(requests, session),
+            Storage::Keyed(found) => found.remove_of(session),
         }
     }
 
@@ -152,8 +153,8 @@ impl Waiters {
         ensures { self.new ≡ filter (λ b. not (calls b.transaction x)) self.old }
     {
         match &mut self.kept {
-            Kept::Scanned(requests) => drop_under(requests, x),
-            Kept::Keyed(found) => found.remove_all(&UnderIt { transaction: x }),
+            Storage::Scanned(requests) => drop_under(requests, x),
+            Storage::Keyed(found) => found.remove_all(&UnderIt { transaction: x }),
         }
     }
 
@@ -162,8 +163,8 @@ impl Waiters {
         ensures { self.new ≡ filter (λ b. not (b.space == space && is_some b.transaction)) self.old }
     {
         match &mut self.kept {
-            Kept::Scanned(requests) => drop_at(requests, space),
-            Kept::Keyed(found) => found.remove_all(&UnderAny { space }),
+            Storage::Scanned(requests) => drop_at(requests, space),
+            Storage::Keyed(found) => found.remove_all(&UnderAny { space }),
         }
     }
 
@@ -174,16 +175,16 @@ impl Waiters {
         ensures { OnTrue result (self.now ≡ []) }
     {
         match &self.kept {
-            Kept::Scanned(requests) => requests.is_empty(),
-            Kept::Keyed(found) => found.requests.places().is_empty(),
+            Storage::Scanned(requests) => requests.is_empty(),
+            Storage::Keyed(found) => found.requests.places().is_empty(),
         }
     }
 
     /// How many wait, or more, told at once.
     pub fn most_waiting(&self) -> usize {
         match &self.kept {
-            Kept::Scanned(requests) => requests.len(),
-            Kept::Keyed(found) => found.requests.places().len(),
+            Storage::Scanned(requests) => requests.len(),
+            Storage::Keyed(found) => found.requests.places().len(),
         }
     }
 
@@ -192,8 +193,8 @@ impl Waiters {
         ensures { option_copied result ≡ find (λ b. b.number == number) self.now }
     {
         match &self.kept {
-            Kept::Scanned(requests) => first_numbered(requests, number),
-            Kept::Keyed(found) => found.requests.get(number),
+            Storage::Scanned(requests) => first_numbered(requests, number),
+            Storage::Keyed(found) => found.requests.get(number),
         }
     }
 
@@ -202,8 +203,8 @@ impl Waiters {
         ensures { option_copied result ≡ find (λ b. P.is_passed test.now b) self.now }
     {
         match &self.kept {
-            Kept::Scanned(requests) => first_passing(requests, test),
-            Kept::Keyed(found) => first_at_places(found.requests.places(), test),
+            Storage::Scanned(requests) => first_passing(requests, test),
+            Storage::Keyed(found) => first_at_places(found.requests.places(), test),
         }
     }
 
@@ -220,7 +221,7 @@ impl Waiters {
         ensures { option_copied result ≡ find (takes_one (O.is_taker offer.now) space numbers.now) self.now }
     {
         match &self.kept {
-            Kept::Scanned(requests) => first_passing(
+            Storage::Scanned(requests) => first_passing(
                 requests,
                 &TakesOne {
                     space,
@@ -228,12 +229,13 @@ impl Waiters {
                     offer,
                 },
             ),
-            Kept::Keyed(found) => first_taker(&found.requests, space, numbers, offer),
+            Storage::Keyed(found) => first_taker(&found.requests, space, numbers, offer),
         }
     }
 
-    /// The first request at a space that waits no more: it may be given one of the rows of these numbers,
-    /// or waited for a conflict that is gone and is one of some requests or, where none are given, any.
+    /// The first request at a space that waits no more: it may be given one of the rows of these
+    /// numbers, or waited for a conflict that is gone and is one of some requests or, where none
+    /// are given, any.
     pub fn first_stirred<O: Offer>(
         &self,
         space: u64,
@@ -245,7 +247,7 @@ impl Waiters {
         ensures { option_copied result ≡ find (waits_no_more (O.is_taker offer.now) (freed_among (O.is_freed offer.now) (option_copied among.entry)) space numbers.now) self.now }
     {
         match &self.kept {
-            Kept::Scanned(requests) => first_passing(
+            Storage::Scanned(requests) => first_passing(
                 requests,
                 &Stirred {
                     space,
@@ -254,7 +256,7 @@ impl Waiters {
                     offer,
                 },
             ),
-            Kept::Keyed(found) => first_stirred(&found.requests, space, numbers, among, offer),
+            Storage::Keyed(found) => first_stirred(&found.requests, space, numbers, among, offer),
         }
     }
 
@@ -263,8 +265,8 @@ impl Waiters {
         ensures { result ≡ not (list_any (λ b. waits_for_conflict b.form) self.now) }
     {
         match &self.kept {
-            Kept::Scanned(requests) => !any_waits_for_conflict(requests),
-            Kept::Keyed(found) => are_all_patient(&found.requests),
+            Storage::Scanned(requests) => !any_waits_for_conflict(requests),
+            Storage::Keyed(found) => are_all_patient(&found.requests),
         }
     }
 
@@ -273,12 +275,13 @@ impl Waiters {
         ensures { result ≡ list_any (freed_numbered (O.is_freed offer.now) number) self.now }
     {
         match &self.kept {
-            Kept::Scanned(requests) => any_freed(requests, number, offer),
-            Kept::Keyed(found) => is_freed(&found.requests, number, offer),
+            Storage::Scanned(requests) => any_freed(requests, number, offer),
+            Storage::Keyed(found) => is_freed(&found.requests, number, offer),
         }
     }
 
-    /// Numbers, among which are those of all requests that wait for a conflict to end and ask for a row.
+    /// Numbers, among which are those of all requests that wait for a conflict to end and ask for a
+    /// row.
     pub fn waiting_for(
         &self,
         alloc: Global,
@@ -288,8 +291,8 @@ impl Waiters {
         ensures { IfOk result (λ v. IsTrue (list_all (λ b. not (waits_for classes.now row.now b) || has v.items b.number) self.now)) }
     {
         match &self.kept {
-            Kept::Scanned(requests) => numbers_waiting_for(alloc, requests, classes, row),
-            Kept::Keyed(found) => waiting_for(alloc, &found.requests, classes, row),
+            Storage::Scanned(requests) => numbers_waiting_for(alloc, requests, classes, row),
+            Storage::Keyed(found) => waiting_for(alloc, &found.requests, classes, row),
         }
     }
 
@@ -299,8 +302,8 @@ impl Waiters {
         ensures { result ≡ list_any (λ b. O.is_taker offer.now number b) self.now }
     {
         match &self.kept {
-            Kept::Scanned(requests) => any_takes(requests, number, offer),
-            Kept::Keyed(found) => is_wanted(&found.requests, number, offer),
+            Storage::Scanned(requests) => any_takes(requests, number, offer),
+            Storage::Keyed(found) => is_wanted(&found.requests, number, offer),
         }
     }
 
@@ -309,8 +312,8 @@ impl Waiters {
         ensures { result ≡ list_any (λ b. b.session == session && b.id == id) self.now }
     {
         match &self.kept {
-            Kept::Scanned(requests) => any_asked(requests, session, id),
-            Kept::Keyed(found) => found.is_asked(session, id),
+            Storage::Scanned(requests) => any_asked(requests, session, id),
+            Storage::Keyed(found) => found.is_asked(session, id),
         }
     }
 
@@ -319,8 +322,8 @@ impl Waiters {
         ensures { result ≡ nat_le count (length (filter (λ b. b.session == session) self.now)) }
     {
         match &self.kept {
-            Kept::Scanned(requests) => count <= count_asked(requests, session),
-            Kept::Keyed(found) => found.are_at_least(session, count),
+            Storage::Scanned(requests) => count <= count_asked(requests, session),
+            Storage::Keyed(found) => found.are_at_least(session, count),
         }
     }
 
@@ -329,8 +332,8 @@ impl Waiters {
         ensures { result ≡ length (filter (λ b. b.space == space) self.now) }
     {
         match &self.kept {
-            Kept::Scanned(requests) => count_waiting(requests, space),
-            Kept::Keyed(found) => count_waiting_at(found.requests.places(), space),
+            Storage::Scanned(requests) => count_waiting(requests, space),
+            Storage::Keyed(found) => count_waiting_at(found.requests.places(), space),
         }
     }
 
@@ -339,8 +342,8 @@ impl Waiters {
         ensures { result ≡ first_item (over_by time (map blocked_end self.now)) }
     {
         match &self.kept {
-            Kept::Scanned(requests) => first_over(requests, time),
-            Kept::Keyed(found) => found.requests.due(time),
+            Storage::Scanned(requests) => first_over(requests, time),
+            Storage::Keyed(found) => found.requests.due(time),
         }
     }
 
@@ -349,8 +352,8 @@ impl Waiters {
         ensures { IfOk result (λ v. v.items ≡ map (λ b. b.space) (filter (λ b. b.number == number) self.now)) }
     {
         match &self.kept {
-            Kept::Scanned(requests) => spaces_numbered(alloc, requests, number),
-            Kept::Keyed(found) => space_of(alloc, &found.requests, number),
+            Storage::Scanned(requests) => spaces_numbered(alloc, requests, number),
+            Storage::Keyed(found) => space_of(alloc, &found.requests, number),
         }
     }
 
@@ -359,8 +362,8 @@ impl Waiters {
         ensures { IfOk result (λ v. v.items ≡ askers_under transactions.now self.now) }
     {
         match &self.kept {
-            Kept::Scanned(requests) => asked_under(alloc, requests, transactions),
-            Kept::Keyed(found) => askers(alloc, &found.requests, &Under { transactions }),
+            Storage::Scanned(requests) => asked_under(alloc, requests, transactions),
+            Storage::Keyed(found) => askers(alloc, &found.requests, &Under { transactions }),
         }
     }
 
@@ -369,8 +372,8 @@ impl Waiters {
         ensures { IfOk result (λ v. v.items ≡ askers_at space self.now) }
     {
         match &self.kept {
-            Kept::Scanned(requests) => asked_at(alloc, requests, space),
-            Kept::Keyed(found) => askers(alloc, &found.requests, &UnderAny { space }),
+            Storage::Scanned(requests) => asked_at(alloc, requests, space),
+            Storage::Keyed(found) => askers(alloc, &found.requests, &UnderAny { space }),
         }
     }
 }

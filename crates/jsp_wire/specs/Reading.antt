@@ -42,8 +42,8 @@ unfoldable pub reading : Version → List ℕ → Reading
 reading v payload = reading_of v (json_of payload)
 
 -- what was returned is what the payload is, unless memory ran out
-abbrev pub Answers : Result Request WireFault → Reading → Type 0
-Answers (Ok r) read = read ≡ request r
-Answers (Err fault.BadJson) read = read ≡ bad_json
-Answers (Err (fault.BadRequest id)) read = read ≡ bad_request id
-Answers (Err fault.NoMemory) read = Unit {0}
+abbrev pub TellsReading : Result Request WireFault → Reading → Type 0
+TellsReading (Ok r) read = read ≡ request r
+TellsReading (Err fault.BadJson) read = read ≡ bad_json
+TellsReading (Err (fault.BadRequest id)) read = read ≡ bad_request id
+TellsReading (Err fault.NoMemory) read = Unit {0}

@@ -7,8 +7,8 @@ use jsp_types::{Items, NoMemory};
 const FIRST_ROOM: usize = 32;
 
 /// Adds a part to those that were read before it, of so many in all. Room for more than one is made
-/// with the first, so that a list of which the first is wrong takes no memory, and for 32 at most, so
-/// that a long list of which the second is wrong takes little.
+/// with the first, so that a list of which the first is wrong takes no memory, and for 32 at most,
+/// so that a long list of which the second is wrong takes little.
 pub(crate) fn add<T: Drop>(parts: &mut Items<T>, part: T, count: usize) -> Result<(), NoMemory>
     ensures { OnOk result (parts.new ≡ parts.old ++ part ∷ []) }
 {

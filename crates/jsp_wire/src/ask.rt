@@ -16,8 +16,8 @@ pub struct Declare {
     pub fields: Items<(Text, Option<Kind>)>,
 }
 
-/// An entry to be written (JavaSpaces). The lease is asked for in milliseconds; -1 leaves the time to
-/// the server (Jini Leasing).
+/// An entry to be written (JavaSpaces). The lease is asked for in milliseconds; -1 leaves the time
+/// to the server (Jini Leasing).
 #[derive(Drop)]
 pub struct Write {
     pub space: Text,
@@ -91,8 +91,8 @@ pub enum Ask {
     TakeIf(Search),
     /// A registration for events (JavaSpaces, Jini Events).
     Notify(Notify),
-    /// A lease to be renewed, by its number, for `ms` milliseconds from the renewal on, whatever was
-    /// left of it; -1 leaves the time to the server (Jini Leasing).
+    /// A lease to be renewed, by its number, for `ms` milliseconds from the renewal on, whatever
+    /// was left of it; -1 leaves the time to the server (Jini Leasing).
     Renew { lease: i64, ms: i64 },
     /// A lease to be cancelled, by its number (Jini Leasing).
     Cancel { lease: i64 },

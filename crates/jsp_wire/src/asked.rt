@@ -11,8 +11,8 @@ use std::marker::Model;
 /// A request within its limits. Contracts see it as the request.
 ///
 /// An id is at most 9,223,372,036,854,775,807. A handback has at most 256 bytes, a batch 1 to 64
-/// leases or entries; 1 to 8 templates and 1 to 16 entries are asked for together. It stands in a block of
-/// its own, so that whatever has one, as a step of a history, is small.
+/// leases or entries; 1 to 8 templates and 1 to 16 entries are asked for together. It stands in a
+/// block of its own, so that whatever has one, as a step of a history, is small.
 #[derive(Drop)]
 pub struct Asked {
     request: Box<Request>,

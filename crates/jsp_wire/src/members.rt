@@ -35,7 +35,8 @@ pub(crate) fn put<'a>(
     Ok(())
 }
 
-/// Whether each key is above the one before it, so that the members stand in byte order of their keys.
+/// Whether each key is above the one before it, so that the members stand in byte order of their
+/// keys.
 pub(crate) fn is_ascending<'a>(members: &[(&'a str, Tree<'a>)]) -> bool
     ensures { result ≡ true → members_view members.now ≡ members_in_order members.now }
 {

@@ -4,7 +4,7 @@ ghost use Rattle.jsp_wire.specs.Tree.{view};
 ghost use Rattle.jsp_wire.specs.declared.ask.Version.TheVariants.{One};
 ghost use Rattle.jsp_wire.specs.Parts.{Gives};
 ghost use Rattle.jsp_wire.specs.Operations.{declare_of, write_of, search_of, notify_of, renew_of, cancel_of, renew_all_of, cancel_all_of, begin_of, transaction_of, reset_of, keyless_of, hello_of, ask_of};
-ghost use Rattle.jsp_wire.specs.Reading.{Answers, request_of, reading_of, reading};
+ghost use Rattle.jsp_wire.specs.Reading.{TellsReading, request_of, reading_of, reading};
 
 use crate::added::added;
 use crate::fault::{Flaw, WireFault};
@@ -228,7 +228,7 @@ fn request(alloc: Global, version: Version, json: &Tree<'_>) -> Result<Asked, Fl
 }
 
 fn request_or_fault(alloc: Global, version: Version, json: &Tree<'_>) -> Result<Asked, WireFault>
-    ensures { Answers result (reading_of version (Some (view json.now))) }
+    ensures { TellsReading result (reading_of version (Some (view json.now))) }
 {
     match request(alloc, version, json) {
         Ok(asked) => Ok(asked),
@@ -237,11 +237,12 @@ fn request_or_fault(alloc: Global, version: Version, json: &Tree<'_>) -> Result<
     }
 }
 
-/// The request that a payload is on a line of version 1, as each line is at first, or its one fault.
+/// The request that a payload is on a line of version 1, as each line is at first, or its one
+/// fault.
 ///
 /// It has the operations of version 1 and `hello`. All else is as [`read_ask_in`] says.
 pub fn read_ask(alloc: Global, payload: &[u8]) -> Result<Asked, WireFault>
-    ensures { Answers result (reading One payload.now) }
+    ensures { TellsReading result (reading One payload.now) }
 {
     read_ask_in(alloc, Version::One, payload)
 }
@@ -250,26 +251,26 @@ pub fn read_ask(alloc: Global, payload: &[u8]) -> Result<Asked, WireFault>
 ///
 /// A payload is JSON (RFC 8259) as serde_json reads it, nested at most 127 deep. A request is an
 /// object with `id`, `op` and the keys of its operation and no other; `parent` and `txn` may be
-/// absent or null, but for the `txn` of `commit`, `abort` and `state`. `leases` is a list, of numbers
-/// to cancel them and of pairs `[lease, ms]` to renew them; a pair is an array of exactly two
-/// numbers. A line of version 2 has the operations of version 1 and `write_all`, `take_many`,
+/// absent or null, but for the `txn` of `commit`, `abort` and `state`. `leases` is a list, of
+/// numbers to cancel them and of pairs `[lease, ms]` to renew them; a pair is an array of exactly
+/// two numbers. A line of version 2 has the operations of version 1 and `write_all`, `take_many`,
 /// `contents`, `next` and `close_set`. The limits of a request are those of [`Asked`]. The
 /// operations, their keys and these limits are this profile's own.
 pub fn read_ask_in(alloc: Global, version: Version, payload: &[u8]) -> Result<Asked, WireFault>
-    ensures { Answers result (reading version payload.now) }
+    ensures { TellsReading result (reading version payload.now) }
 {
     read_within(alloc, version, payload, &mut Scratch::new(alloc))
 }
 
-/// The same, in a scratch space that is kept from payload to payload. It keeps room for a payload of
-/// 4,096 bytes; a longer one is read in a space of its own.
+/// The same, in a scratch space that is kept from payload to payload. It keeps room for a payload
+/// of 4,096 bytes; a longer one is read in a space of its own.
 pub fn read_ask_with(
     alloc: Global,
     version: Version,
     payload: &[u8],
     scratch: &mut Scratch,
 ) -> Result<Asked, WireFault>
-    ensures { Answers result (reading version payload.now) }
+    ensures { TellsReading result (reading version payload.now) }
 {
     if payload.len() > KEPT_ROOM {
         return read_ask_in(alloc, version, payload);
@@ -284,7 +285,7 @@ fn read_within(
     payload: &[u8],
     scratch: &mut Scratch,
 ) -> Result<Asked, WireFault>
-    ensures { Answers result (reading version payload.now) }
+    ensures { TellsReading result (reading version payload.now) }
 {
     match parse(alloc, payload, scratch) {
         Ok(json) => request_or_fault(alloc, version, &json),

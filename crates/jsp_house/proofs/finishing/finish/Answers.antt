@@ -6,7 +6,7 @@ use Rattle.jsp_model.specs.Steps.{is_legal, next}
 use Rattle.jsp_model.specs.Touches.{touches}
 use Rattle.jsp_house.specs.Making.{KeepsLog}
 use Rattle.jsp_quiet.proofs.Falls.{free_falls}
-use Rattle.jsp_audit.proofs.Judging.{unasked_unrefused}
+use Rattle.jsp_machine.proofs.Judging.{unasked_unrefused}
 use Rattle.jsp_house.proofs.Going.{goes_start, goes_none, goes_more, falls_to, some_undone}
 use Rattle.jsp_house.proofs.Logging.{keeps_none, keeps_both}
 use Rattle.jsp_house.proofs.finishing.finish.Goals as goal

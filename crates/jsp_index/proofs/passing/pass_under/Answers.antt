@@ -1,6 +1,6 @@
 use Rattle.jsp_index.specs.declared.starts.Unseen.{Unseen}
 use Rattle.jsp_index.specs.declared.starts.Unseen.TheVariants.{Nothing, Taken, Hidden, Held}
-use Rattle.jsp_index.specs.declared.starts.Start.{Start}
+use Rattle.jsp_index.specs.declared.starts.ListStart.{ListStart}
 use Rattle.jsp_table.specs.Finding.{AreNamed}
 use Rattle.jsp_index.specs.Finding.{number}
 use Rattle.jsp_index.specs.Starts.{number_at}
@@ -15,7 +15,7 @@ returns-then-ne c =
     let key = c.args.key in
     let rows = c.args.rows.now in
     let before : (u : Unseen) → AreAbove (has_key seed key) (is_open u) (number_at u c.start_of-start.result) rows = λ u. key_above seed starts key (number_at u c.start_of-start.result) u (has_key seed key) rows (c.start_of-start.ensures u) (λ r k. k) c.requires in
-    let next : Start = record { taken = c.further-taken.result; hidden = c.further-hidden.result; held = c.further-held.result } in
+    let next : ListStart = record { taken = c.further-taken.result; hidden = c.further-hidden.result; held = c.further-held.result } in
     let named : AreNamed number (has_key seed key) c.in-Some.numbers.now rows = c.in-Some.ensures in
     let kind = has_key seed key in
     let taken : AreAbove kind is_untaken c.further-taken.result rows = c.further-taken.ensures kind named (before Taken) in

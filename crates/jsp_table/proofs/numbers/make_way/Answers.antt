@@ -1,7 +1,7 @@
 use Rattle.std.proofs.Common.{ℕ, Vec, Global, ap, sym, ◌∙◌}
 use Rattle.std.proofs.lemmas.Map.Keys.{below_from_sorted}
 use Rattle.jsp_table.specs.Numbers.{contains}
-use Rattle.jsp_table.specs.Kept.{numbers_in}
+use Rattle.jsp_table.specs.Storage.{numbers_in}
 use Rattle.jsp_table.proofs.Next.{made}
 use Rattle.jsp_table.proofs.numbers.make_way.Goals as goal
 

@@ -1,7 +1,7 @@
 use Rattle.std.proofs.Common.{◌≡◌, ◌∙◌, ap, sym, subst, List, rules}
 use Rattle.std.specs.Prelude.{is_some, option_copied}
 use Rattle.std.specs.List.{list_any}
-use Rattle.jsp_list.specs.Kept.{things_in}
+use Rattle.jsp_list.specs.Storage.{things_in}
 use Rattle.jsp_keyed.proofs.Placed.{any_is}
 use Rattle.jsp_list.proofs.indexed_list.IndexedList.any.Goals as goal
 

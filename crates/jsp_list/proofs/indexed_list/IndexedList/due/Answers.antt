@@ -1,7 +1,7 @@
 use Rattle.std.proofs.Common.{◌≡◌, ◌∙◌, ap, sym, subst, List, map}
 use Rattle.jsp_lease.specs.Due.{first_item, over_by}
 use Rattle.jsp_keyed.specs.Kept.{item_of}
-use Rattle.jsp_list.specs.Kept.{things_in}
+use Rattle.jsp_list.specs.Storage.{things_in}
 use Rattle.jsp_keyed.proofs.Placed.{all_pass}
 use Rattle.jsp_list.proofs.indexed_list.IndexedList.due.Goals as goal
 

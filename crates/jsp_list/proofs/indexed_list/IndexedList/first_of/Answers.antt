@@ -1,6 +1,6 @@
 use Rattle.std.proofs.Common.{◌≡◌, ◌∙◌, ap, sym, subst, List, ◌&&◌, eqb}
 use Rattle.std.specs.Prelude.{find, option_copied}
-use Rattle.jsp_list.specs.Kept.{things_in}
+use Rattle.jsp_list.specs.Storage.{things_in}
 use Rattle.jsp_keyed.proofs.Placed.{found_numbered}
 use Rattle.jsp_list.proofs.indexed_list.IndexedList.first_of.Goals as goal
 

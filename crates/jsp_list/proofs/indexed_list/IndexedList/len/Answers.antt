@@ -1,5 +1,5 @@
 use Rattle.std.proofs.Common.{List, length, ap, sym, ◌∙◌}
-use Rattle.jsp_list.specs.Kept.{things_in}
+use Rattle.jsp_list.specs.Storage.{things_in}
 use Rattle.jsp_keyed.proofs.Placed.{living_count}
 use Rattle.jsp_list.proofs.indexed_list.IndexedList.len.Goals as goal
 

@@ -1,7 +1,7 @@
 use Rattle.std.proofs.Common.{◌≡◌, ◌∙◌, ap, sym, subst, List, map, eqb, [], ◌∷◌}
 use Rattle.std.specs.Prelude.{filter, option_copied, IfOk}
 use Rattle.jsp_table.specs.Places.{living}
-use Rattle.jsp_list.specs.Kept.{things_in}
+use Rattle.jsp_list.specs.Storage.{things_in}
 use Rattle.jsp_keyed.proofs.Placed.{only_numbered}
 use Rattle.jsp_list.proofs.indexed_list.IndexedList.read_of.Goals as goal
 

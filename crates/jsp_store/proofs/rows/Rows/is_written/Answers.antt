@@ -2,7 +2,7 @@ use Rattle.std.proofs.Common.{◌∙◌, ap, sym}
 use Rattle.std.specs.Prelude.{◌&&◌, ◌==◌}
 use Rattle.std.specs.List.{list_any}
 use Rattle.jsp_model.specs.declared.state.Row.{Row}
-use Rattle.jsp_store.specs.Kept.{rows_in}
+use Rattle.jsp_store.specs.Storage.{rows_in}
 use Rattle.jsp_store.proofs.rows.Rows.is_written.Goals as goal
 
 pub returns-in-Scanned : goal.returns-in-Scanned

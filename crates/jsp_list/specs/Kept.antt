@@ -1,8 +1,0 @@
--- The things of a list, however they are kept.
-use Rattle.std.specs.Prelude.{List}
-use Rattle.jsp_list.specs.declared.indexed_list.Kept.{Kept}
-use Rattle.jsp_list.specs.declared.indexed_list.Kept.TheVariants.{Scanned, Keyed}
-
-abbrev pub things_in : {T K : Type 0} → Kept T K → List T
-things_in (Scanned things) = things.items
-things_in (Keyed things) = things

@@ -1,9 +1,0 @@
-use Rattle.std.proofs.lemmas.Result.{IfOk-weaker}
-use Rattle.jsp_reply.proofs.Lengths.{written_short}
-use Rattle.jsp_reply.proofs.writing.text.Goals as goal
-
-pub returns-clause-short : goal.returns-clause-short
-returns-clause-short c =
-    IfOk-weaker c.reply_text.result _ _
-    (λ v. written_short v.items c.reply.result.now c.args.said.now c.reply.ensures.limits c.reply.ensures.said)
-    c.reply_text.ensures

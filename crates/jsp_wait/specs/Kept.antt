@@ -1,9 +1,0 @@
--- The requests that wait, however they are kept.
-use Rattle.std.specs.Prelude.{List}
-use Rattle.jsp_model.specs.declared.state.Blocked.{Blocked}
-use Rattle.jsp_wait.specs.declared.waiters.Kept.{Kept}
-use Rattle.jsp_wait.specs.declared.waiters.Kept.TheVariants.{Scanned, Keyed}
-
-abbrev pub requests_in : Kept → List Blocked
-requests_in (Scanned requests) = requests.items
-requests_in (Keyed requests) = requests
