@@ -1,4 +1,3 @@
-mod Chosen
 mod Declaring
 mod Given
 mod Numbers

@@ -1,5 +1,5 @@
--- Why a request for rows can't wait, and what it is answered.
-use Rattle.std.specs.Prelude.{ℕ, ℤ, ◌&&◌, nat_le, if◌then◌else◌, List, [], ◌∷◌, Option, Some, None}
+-- Why a request for rows can't wait, what comes of one that isn't refused, and what it is answered.
+use Rattle.std.specs.Prelude.{ℕ, Bool, ◌&&◌, nat_lt, nat_le, if◌then◌else◌, List, [], ◌∷◌, Option}
 use Rattle.jsp_types.specs.declared.entry.Entry.{Entry}
 use Rattle.jsp_reply.specs.declared.refusal.Refusal.TheVariants.{BadTimeout, TooManyWaiting, UsedUp}
 use Rattle.jsp_reply.specs.declared.reply.Reply.{Reply}
@@ -7,11 +7,12 @@ use Rattle.jsp_reply.specs.declared.reply.Reply.TheVariants as says
 use Rattle.jsp_model.specs.declared.state.State.{State}
 use Rattle.jsp_model.specs.declared.state.Blocked.{Blocked}
 use Rattle.jsp_model.specs.declared.state.Form.{Form}
-use Rattle.jsp_model.specs.Lookup.{waiting_count}
-use Rattle.jsp_model.specs.Requests.{RowRequest, as_blocked, caller_of, would_block}
-use Rattle.jsp_model.specs.Changes.{block}
-use Rattle.jsp_entries.specs.Giving.{given_to}
-use Rattle.jsp_model.specs.Answers.{is_many}
+use Rattle.jsp_model.specs.Lookup.{named, waiting_count}
+use Rattle.jsp_model.specs.Quiet.{must_wait}
+use Rattle.jsp_model.specs.Requests.{RowRequest, as_blocked, would_block}
+use Rattle.jsp_model.specs.Changes.{join, block, give}
+use Rattle.jsp_model.specs.Answers.{is_many, answer_with, entries_of}
+use Rattle.jsp_entries.specs.declared.blocking.RowsWanted.{RowsWanted}
 use Rattle.jsp_model.specs.Refusals.{Tests, is_negative, is_used_up}
 use Rattle.jsp_model.specs.declared.limits.TheConstants.{MOST_WAITING}
 
@@ -29,14 +30,22 @@ waiting_limits st s =
     ∷ (is_used_up st 1, UsedUp)
     ∷ []
 
--- the request as it waits, if it would wait
-abbrev pub if_blocked : State → ℕ → ℕ → RowRequest → Option Blocked
-if_blocked st s id q = if would_block st s id q then Some (as_blocked st s id q) else None
+-- a request for rows as it would wait, and whether it may
+abbrev pub wanted : State → ℕ → ℕ → RowRequest → RowsWanted
+wanted st s id q = record { request = as_blocked st s id q; may_wait = nat_lt 0 (named q.timeout) }
+
+abbrev pub waits : State → RowsWanted → Bool
+waits st w = w.may_wait && must_wait st w.request
 
 -- the state where the request waits, or is given these rows
-abbrev pub blocked_or_given : Form → Option ℤ → List ℕ → Option Blocked → State → State
-blocked_or_given form txn rows None st = given_to form (caller_of txn) rows st
-blocked_or_given form txn rows (Some b) st = block st b
+abbrev pub served : State → RowsWanted → List ℕ → State
+served st w ns =
+    let joined = join st w.request.transaction w.request.space in
+    if waits st w then block joined w.request else give joined w.request ns
+
+-- none where it waits
+abbrev pub said_at_once : State → RowsWanted → List ℕ → List Reply
+said_at_once st w ns = if waits st w then [] else answer_with w.request (entries_of st ns) ∷ []
 
 -- the answer to a request of this form that is given these entries
 abbrev pub reply_with : Form → ℕ → List Entry → Reply

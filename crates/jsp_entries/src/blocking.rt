@@ -1,10 +1,12 @@
 //! A request for rows, and as it waits.
-ghost use Rattle.std.specs.Prelude.{◌≡◌, ◌==◌, ◌≤◌, ◌^◌, IfOk, filter, find, not, option_copied};
+ghost use Rattle.std.specs.Prelude.{◌≡◌, ◌==◌, ◌≤◌, ◌^◌, IfOk, filter, find, nat_lt, not, option_copied};
 ghost use Rattle.jsp_model.specs.Lookup.{blocked_of};
 ghost use Rattle.jsp_model.specs.Requests.{as_blocked as waiting_as};
 ghost use Rattle.jsp_model.specs.Changes.{unblock as unblocked};
 ghost use Rattle.jsp_state.specs.Fitting.{AllFit};
 ghost use Rattle.jsp_entries.specs.Asking.{rows_of, end_asked};
+ghost use Rattle.jsp_entries.specs.Searching.{wanted};
+ghost use Rattle.jsp_model.specs.Lookup.{named as number_named};
 ghost use Rattle.jsp_model.specs.declared.limits.TheConstants.{LAST_TIME};
 
 use jsp_core::Core;
@@ -24,6 +26,39 @@ pub struct RowsAsked<'a> {
     /// In milliseconds.
     pub timeout: i64,
     pub txn: Option<i64>,
+}
+
+/// A request for rows that isn't refused, as it would wait, and whether it may.
+#[derive(Drop)]
+pub struct RowsWanted {
+    pub request: Blocked,
+    /// Whether its timeout is above 0.
+    pub may_wait: bool,
+}
+
+/// The request as it would wait, and whether it may.
+pub(crate) fn want(
+    alloc: Global,
+    state: &Core,
+    session: u64,
+    id: u64,
+    asked: &RowsAsked,
+) -> Result<RowsWanted, NoMemory>
+    requires time { state.now.time ≤ LAST_TIME }
+    requires templates { AllFit state.now.classes asked.now.templates.now }
+    ensures { IfOk result (λ w. w ≡ wanted state.now session id (rows_of asked.now)) }
+{
+    let request = as_blocked(alloc, state, session, id, asked)?;
+    Ok(RowsWanted {
+        request,
+        may_wait: may_wait(asked),
+    })
+}
+
+fn may_wait(asked: &RowsAsked) -> bool
+    ensures { result ≡ nat_lt 0 (number_named asked.now.timeout) }
+{
+    0 < named(asked.timeout)
 }
 
 /// The request as it waits, under the next number.

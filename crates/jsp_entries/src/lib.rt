@@ -16,11 +16,11 @@ mod search;
 mod storing;
 mod write;
 
-pub use blocking::{RowsAsked, as_blocked, blocked_named, unblock};
+pub use blocking::{RowsWanted, blocked_named, unblock};
 pub use declare::{accept_declare, refuse_declare};
 pub use requests::{
-    accept_entries, accept_entry, accept_many, accept_one, answer_entries, answer_many, answer_one,
-    refuse_entries, refuse_entry, refuse_many, refuse_one, waiting_many, waiting_one,
+    accept_entries, accept_entry, answer_entries, refuse_entries, refuse_entry, refuse_many,
+    refuse_one, want_many, want_one,
 };
-pub use search::{accept_search, answer_search, answer_with, grant, refuse_search};
-pub use write::{WriteAsked, accept_write, answer_leased, answer_write_all, refuse_write};
+pub use search::{accept_rows, answer_rows, answer_with, grant};
+pub use write::answer_leased;

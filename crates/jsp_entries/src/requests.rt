@@ -1,25 +1,23 @@
 //! The requests on entries as clients send them: one row or several, one entry or several.
-ghost use Rattle.std.specs.Prelude.{◌≡◌, ◌≤◌, ◌+◌, ◌^◌, ◌∷◌, [], map, length, true, None, Some, IfOk, OnOk, OnErr, IsTrue, option_to_list};
+ghost use Rattle.std.specs.Prelude.{◌≡◌, ◌≤◌, ◌+◌, ◌∷◌, [], length, None, IfOk, OnOk, OnErr, option_to_list};
 ghost use Rattle.std.specs.List.{range_with_len};
 ghost use Rattle.jsp_types.specs.Tests.{first_that};
 ghost use Rattle.jsp_lease.specs.Granted.{ms_of as granted_ms};
 ghost use Rattle.jsp_reply.specs.declared.reply.Reply.TheVariants as says;
-ghost use Rattle.jsp_model.specs.Limits.{are_rising};
-ghost use Rattle.jsp_model.specs.Requests.{one_row as one_of, many_rows as many_of, one_entry as entry_written, all_entries as entries_written, as_blocked as waiting_as};
+ghost use Rattle.jsp_model.specs.Requests.{one_row as one_of, many_rows as many_of, one_entry as entry_written, all_entries as entries_written};
 ghost use Rattle.jsp_model.specs.Refusals.{rows_tests, write_tests};
-ghost use Rattle.jsp_model.specs.Changes.{give_or_block, write as written};
-ghost use Rattle.jsp_model.specs.Answers.{rows_answer};
-ghost use Rattle.jsp_model.specs.Steps.{is_choice};
+ghost use Rattle.jsp_model.specs.Changes.{write as written};
 ghost use Rattle.jsp_entries.specs.Asking.{rows_of, write_of};
+ghost use Rattle.jsp_entries.specs.Searching.{wanted};
 ghost use Rattle.jsp_model.specs.declared.limits.TheConstants.{LAST_NUMBER, LAST_TIME};
 
-use crate::blocking::{RowsAsked, as_blocked};
-use crate::search::{accept_search, answer_search, refuse_search};
+use crate::blocking::{RowsAsked, RowsWanted, want};
+use crate::search::refuse_search;
 use crate::write::{WriteAsked, accept_write, answer_write_all, refuse_write};
 use jsp_core::Core;
-use jsp_model::{Blocked, Form};
+use jsp_model::Form;
 use jsp_reply::{Refusal, Reply};
-use jsp_types::{Items, NoMemory};
+use jsp_types::NoMemory;
 use jsp_wire::{Search, TakeMany, Write, WriteAll};
 use std::alloc::Global;
 use std::slice::from_ref;
@@ -105,121 +103,37 @@ pub fn refuse_many(
     refuse_search(alloc, state, session, id, &many_rows(search))
 }
 
-/// A request for one row is given it, or waits; whole or not at all.
-pub fn accept_one(
-    alloc: Global,
-    state: &mut Core,
-    session: u64,
-    id: u64,
-    rows: &[u64],
-    form: Form,
-    search: &Search,
-) -> Result<(), NoMemory>
-    requires time { state.old.time ≤ LAST_TIME }
-    requires numbers { state.old.next_number ≤ LAST_NUMBER + 1 }
-    requires rows { IsTrue (are_rising 0 state.old.next_number (map (λ r. r.number) state.old.rows)) }
-    requires accepted { first_that (rows_tests state.old session id (one_of form search.now)) ≡ None }
-    requires given { is_choice state.old (waiting_as state.old session id (one_of form search.now)) rows.now ≡ true }
-    ensures ok { OnOk result (state.new ≡ give_or_block state.old session id (one_of form search.now) rows.now) }
-    ensures err { OnErr result (state.new ≡ state.old) }
-{
-    let asked = one_row(form, search);
-    accept_search(alloc, state, session, id, rows, &asked)
-}
-
-/// A request for several rows is given them, or waits; whole or not at all.
-pub fn accept_many(
-    alloc: Global,
-    state: &mut Core,
-    session: u64,
-    id: u64,
-    rows: &[u64],
-    search: &TakeMany,
-) -> Result<(), NoMemory>
-    requires time { state.old.time ≤ LAST_TIME }
-    requires numbers { state.old.next_number ≤ LAST_NUMBER + 1 }
-    requires rows { IsTrue (are_rising 0 state.old.next_number (map (λ r. r.number) state.old.rows)) }
-    requires accepted { first_that (rows_tests state.old session id (many_of search.now)) ≡ None }
-    requires some { 1 ≤ search.now.most }
-    requires given { is_choice state.old (waiting_as state.old session id (many_of search.now)) rows.now ≡ true }
-    ensures ok { OnOk result (state.new ≡ give_or_block state.old session id (many_of search.now) rows.now) }
-    ensures err { OnErr result (state.new ≡ state.old) }
-{
-    let asked = many_rows(search);
-    accept_search(alloc, state, session, id, rows, &asked)
-}
-
-/// What a request for one row is answered at once: nothing where it waits.
-pub fn answer_one(
+/// The request for one row as it would wait, and whether it may.
+pub fn want_one(
     alloc: Global,
     state: &Core,
     session: u64,
     id: u64,
-    rows: &[u64],
     form: Form,
     search: &Search,
-) -> Result<Option<Reply>, NoMemory>
+) -> Result<RowsWanted, NoMemory>
     requires time { state.now.time ≤ LAST_TIME }
     requires accepted { first_that (rows_tests state.now session id (one_of form search.now)) ≡ None }
-    requires given { is_choice state.now (waiting_as state.now session id (one_of form search.now)) rows.now ≡ true }
-    ensures { IfOk result (λ r. option_to_list r ≡ rows_answer state.now session id rows.now (one_of form search.now)) }
+    ensures { IfOk result (λ w. w ≡ wanted state.now session id (one_of form search.now)) }
 {
     let asked = one_row(form, search);
-    answer_search(alloc, state, session, id, rows, &asked)
+    want(alloc, state, session, id, &asked)
 }
 
-/// What a request for several rows is answered at once: nothing where it waits.
-pub fn answer_many(
-    alloc: Global,
-    state: &Core,
-    session: u64,
-    id: u64,
-    rows: &[u64],
-    search: &TakeMany,
-) -> Result<Option<Reply>, NoMemory>
-    requires time { state.now.time ≤ LAST_TIME }
-    requires accepted { first_that (rows_tests state.now session id (many_of search.now)) ≡ None }
-    requires some { 1 ≤ search.now.most }
-    requires given { is_choice state.now (waiting_as state.now session id (many_of search.now)) rows.now ≡ true }
-    ensures { IfOk result (λ r. option_to_list r ≡ rows_answer state.now session id rows.now (many_of search.now)) }
-{
-    let asked = many_rows(search);
-    answer_search(alloc, state, session, id, rows, &asked)
-}
-
-/// The request for one row as it would wait.
-pub fn waiting_one(
-    alloc: Global,
-    state: &Core,
-    session: u64,
-    id: u64,
-    form: Form,
-    search: &Search,
-) -> Result<Option<Blocked>, NoMemory>
-    requires time { state.now.time ≤ LAST_TIME }
-    requires accepted { first_that (rows_tests state.now session id (one_of form search.now)) ≡ None }
-    ensures { IfOk result (λ o. o ≡ Some (waiting_as state.now session id (one_of form search.now))) }
-{
-    let asked = one_row(form, search);
-    let blocked = as_blocked(alloc, state, session, id, &asked)?;
-    Ok(Some(blocked))
-}
-
-/// The request for several rows as it would wait.
-pub fn waiting_many(
+/// The request for several rows as it would wait, and whether it may.
+pub fn want_many(
     alloc: Global,
     state: &Core,
     session: u64,
     id: u64,
     search: &TakeMany,
-) -> Result<Option<Blocked>, NoMemory>
+) -> Result<RowsWanted, NoMemory>
     requires time { state.now.time ≤ LAST_TIME }
     requires accepted { first_that (rows_tests state.now session id (many_of search.now)) ≡ None }
-    ensures { IfOk result (λ o. o ≡ Some (waiting_as state.now session id (many_of search.now))) }
+    ensures { IfOk result (λ w. w ≡ wanted state.now session id (many_of search.now)) }
 {
     let asked = many_rows(search);
-    let blocked = as_blocked(alloc, state, session, id, &asked)?;
-    Ok(Some(blocked))
+    want(alloc, state, session, id, &asked)
 }
 
 /// Why a write of one entry is refused, or nothing where it isn't.

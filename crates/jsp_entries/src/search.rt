@@ -6,27 +6,26 @@ ghost use Rattle.jsp_model.specs.declared.state.Blocked.{Blocked as Waiting};
 ghost use Rattle.jsp_model.specs.Lookup.{blocked_of};
 ghost use Rattle.jsp_model.specs.Sight.{is_take as takes};
 ghost use Rattle.jsp_model.specs.Limits.{are_rising};
-ghost use Rattle.jsp_model.specs.Requests.{would_block as blocks, as_blocked as waiting_as};
-ghost use Rattle.jsp_model.specs.Changes.{block, give as given, give_or_block};
+ghost use Rattle.jsp_model.specs.Changes.{block, give as given};
 ghost use Rattle.jsp_model.specs.Steps.{after_grant, is_choice};
-ghost use Rattle.jsp_model.specs.Answers.{rows_answer, is_many as many};
+ghost use Rattle.jsp_model.specs.Answers.{is_many as many};
 ghost use Rattle.jsp_model.specs.Refusals.{rows_tests, is_negative as lies_below_zero};
 ghost use Rattle.jsp_state.specs.Fitting.{AllFit};
 ghost use Rattle.jsp_entries.specs.Asking.{rows_of};
-ghost use Rattle.jsp_entries.specs.Searching.{waiting_tests, waiting_limits, if_blocked, blocked_or_given, form_and_caller, reply_with};
+ghost use Rattle.jsp_entries.specs.Searching.{waiting_tests, waiting_limits, waits as waits_now, served, said_at_once, form_and_caller, reply_with};
 ghost use Rattle.jsp_model.specs.declared.limits.TheConstants.{LAST_TIME};
 
-use crate::blocking::{RowsAsked, as_blocked, blocked_named, unblock};
+use crate::blocking::{RowsAsked, RowsWanted, as_blocked, blocked_named, unblock};
 use crate::giving::give;
 use jsp_core::Core;
 use jsp_model::{Blocked, Form};
 use jsp_reply::{Refusal, Reply};
 use jsp_state::{
-    caller_of, entries_of, has_conflict, is_if, is_used_up, must_wait, named, place_of,
-    space_refusal, templates_refusal, waits_for_many,
+    entries_of, has_conflict, is_if, is_used_up, must_wait, named, space_refusal,
+    templates_refusal, waits_for_many,
 };
 use jsp_transactions::{join, leave};
-use jsp_types::{Entry, Items, NoMemory, Raw};
+use jsp_types::{Entry, Items, NoMemory, Template};
 use std::alloc::Global;
 
 /// Why a request for rows is refused, or nothing where it isn't (the order is this profile's own).
@@ -101,84 +100,37 @@ fn is_negative(asked: &RowsAsked) -> bool
 
 /// Whether the request waits, which is given these rows. One that is given some doesn't, so nothing
 /// is searched for again.
-fn would_wait(
-    alloc: Global,
-    state: &Core,
-    session: u64,
-    id: u64,
-    rows: &[u64],
-    asked: &RowsAsked,
-) -> Result<bool, NoMemory>
-    requires time { state.now.time ≤ LAST_TIME }
-    requires templates { AllFit state.now.classes asked.now.templates.now }
-    requires some { 1 ≤ asked.now.most }
-    requires given { is_choice state.now (waiting_as state.now session id (rows_of asked.now)) rows.now ≡ true }
-    ensures { IfOk result (λ b. b ≡ blocks state.now session id (rows_of asked.now)) }
+fn waits(state: &Core, wanted: &RowsWanted, rows: &[u64]) -> bool
+    requires some { 1 ≤ wanted.now.request.most }
+    requires given { is_choice state.now wanted.now.request rows.now ≡ true }
+    ensures { result ≡ waits_now state.now wanted.now }
 {
-    if named(asked.timeout) == 0 || !rows.is_empty() {
-        return Ok(false);
+    if !wanted.may_wait || !rows.is_empty() {
+        return false;
     }
-    if !is_if(asked.form) {
-        return Ok(true);
+    if !is_if(wanted.request.form) {
+        return true;
     }
-    let blocked = as_blocked(alloc, state, session, id, asked)?;
-    Ok(has_conflict(state, &blocked))
-}
-
-/// The request as it waits, if it waits, made once. One that is given rows, or doesn't want to
-/// wait, takes no memory.
-fn to_wait(
-    alloc: Global,
-    state: &Core,
-    session: u64,
-    id: u64,
-    rows: &[u64],
-    asked: &RowsAsked,
-) -> Result<Option<Blocked>, NoMemory>
-    requires time { state.now.time ≤ LAST_TIME }
-    requires templates { AllFit state.now.classes asked.now.templates.now }
-    requires some { 1 ≤ asked.now.most }
-    requires given { is_choice state.now (waiting_as state.now session id (rows_of asked.now)) rows.now ≡ true }
-    ensures { IfOk result (λ o. o ≡ if_blocked state.now session id (rows_of asked.now)) }
-{
-    if !rows.is_empty() || named(asked.timeout) == 0 {
-        return Ok(None);
-    }
-    let blocked = as_blocked(alloc, state, session, id, asked)?;
-    if is_if(asked.form) && !has_conflict(state, &blocked) {
-        return Ok(None);
-    }
-    Ok(Some(blocked))
+    has_conflict(state, &wanted.request)
 }
 
 /// Gives the request its rows, or lets it wait for some, whole or not at all. Its space joins its
 /// transaction.
-pub fn accept_search(
-    alloc: Global,
-    state: &mut Core,
-    session: u64,
-    id: u64,
-    rows: &[u64],
-    asked: &RowsAsked,
-) -> Result<(), NoMemory>
-    requires time { state.old.time ≤ LAST_TIME }
+pub fn accept_rows(state: &mut Core, wanted: RowsWanted, rows: &[u64]) -> Result<(), NoMemory>
     requires numbers { state.old.next_number < 2 ^ 63 }
     requires rows { IsTrue (are_rising 0 state.old.next_number (map (λ r. r.number) state.old.rows)) }
-    requires accepted { first_that (rows_tests state.old session id (rows_of asked.now)) ≡ None }
-    requires some { 1 ≤ asked.now.most }
-    requires given { is_choice state.old (waiting_as state.old session id (rows_of asked.now)) rows.now ≡ true }
-    requires one { takes asked.now.form ≡ false → length rows.now ≤ 1 }
-    ensures ok { OnOk result (state.new ≡ give_or_block state.old session id (rows_of asked.now) rows.now) }
+    requires some { 1 ≤ wanted.request.most }
+    requires given { is_choice state.old wanted.request rows.now ≡ true }
+    requires one { takes wanted.request.form ≡ false → length rows.now ≤ 1 }
+    ensures ok { OnOk result (state.new ≡ served state.old wanted rows.now) }
     ensures err { OnErr result (state.new ≡ state.old) }
 {
-    let waiting = to_wait(alloc, state, session, id, rows, asked)?;
-    let space = place_of(state, asked.space);
-    let joining = join(state, caller_of(asked.txn), space)?;
-    match block_or_give(state, asked, waiting, rows) {
-        Ok(()) => {
-            learn(state, space, asked, rows);
-            Ok(())
-        }
+    let waits = waits(state, &wanted, rows);
+    let RowsWanted { request, .. } = wanted;
+    learn(state, &request, rows);
+    let joining = join(state, request.transaction, request.space)?;
+    match block_or_give(state, request, waits, rows) {
+        Ok(()) => Ok(()),
         Err(e) => {
             leave(state, joining);
             Err(e)
@@ -188,44 +140,42 @@ pub fn accept_search(
 
 /// Where a search by several values had to look at many rows, more is learned of how to find such
 /// ones sooner.
-fn learn(state: &mut Core, space: u64, asked: &RowsAsked, rows: &[u64])
+fn learn(state: &mut Core, request: &Blocked, rows: &[u64])
     ensures { state.new ≡ state.old }
 {
     let last = rows.last().copied();
-    'templates: for template in asked.templates {
-        learn_of(state, space, template, last);
+    'templates: for template in request.templates.as_slice() {
+        learn_of(state, request.space, template, last);
     }
 }
 
-fn learn_of(state: &mut Core, space: u64, template: &Option<Raw>, last: Option<u64>)
+fn learn_of(state: &mut Core, space: u64, template: &Template, last: Option<u64>)
     ensures { state.new ≡ state.old }
 {
-    if let Some(raw) = template {
+    if let Template::Like(entry) = template {
         let rows = &mut state.rows;
-        rows.learn(space, raw.fields.as_slice(), last);
+        rows.learn(space, entry.fields.as_slice(), last);
     }
 }
 
 fn block_or_give(
     state: &mut Core,
-    asked: &RowsAsked,
-    waiting: Option<Blocked>,
+    request: Blocked,
+    waits: bool,
     rows: &[u64],
 ) -> Result<(), NoMemory>
     requires numbers { state.old.next_number < 2 ^ 63 }
     requires rows { IsTrue (are_rising 0 state.old.next_number (map (λ r. r.number) state.old.rows)) }
-    requires one { takes asked.now.form ≡ false → length rows.now ≤ 1 }
-    ensures ok { OnOk result (state.new ≡ blocked_or_given asked.now.form asked.now.txn rows.now waiting state.old) }
+    requires one { takes request.form ≡ false → length rows.now ≤ 1 }
+    ensures ok { OnOk result (state.new ≡ (if waits then block state.old request else given state.old request rows.now)) }
     ensures err { OnErr result (state.new ≡ state.old) }
 {
-    match waiting {
-        Some(blocked) => {
-            state.blocked.push(blocked)?;
-            state.next_number += 1;
-            Ok(())
-        }
-        None => give(state, asked.form, caller_of(asked.txn), rows),
+    if waits {
+        state.blocked.push(request)?;
+        state.next_number += 1;
+        return Ok(());
     }
+    give(state, request.form, request.transaction, rows)
 }
 
 /// Gives a request that waits its rows, whole or not at all.
@@ -255,27 +205,24 @@ fn request_named(state: &Core, number: u64) -> Option<(Form, Option<u64>)>
     }
 }
 
-/// What a request for rows is answered at once: the entries of the rows that it is given, that
-/// there are none, or nothing where it waits.
-pub fn answer_search(
+/// What a request for rows is answered at once: the entries of the rows that it is given, that there
+/// are none, or nothing where it waits.
+pub fn answer_rows(
     alloc: Global,
     state: &Core,
-    session: u64,
-    id: u64,
+    wanted: &RowsWanted,
     rows: &[u64],
-    asked: &RowsAsked,
 ) -> Result<Option<Reply>, NoMemory>
-    requires time { state.now.time ≤ LAST_TIME }
-    requires accepted { first_that (rows_tests state.now session id (rows_of asked.now)) ≡ None }
-    requires some { 1 ≤ asked.now.most }
-    requires given { is_choice state.now (waiting_as state.now session id (rows_of asked.now)) rows.now ≡ true }
-    ensures { IfOk result (λ r. option_to_list r ≡ rows_answer state.now session id rows.now (rows_of asked.now)) }
+    requires some { 1 ≤ wanted.now.request.most }
+    requires given { is_choice state.now wanted.now.request rows.now ≡ true }
+    ensures { IfOk result (λ r. option_to_list r ≡ said_at_once state.now wanted.now rows.now) }
 {
-    if would_wait(alloc, state, session, id, rows, asked)? {
+    if waits(state, wanted, rows) {
         return Ok(None);
     }
+    let request = &wanted.request;
     let entries = entries_of(alloc, state, rows)?;
-    Ok(Some(answer_with(asked.form, id, entries)))
+    Ok(Some(answer_with(request.form, request.id, entries)))
 }
 
 /// The answer to a request for rows that is given these entries (JavaSpaces: the entry, or null;

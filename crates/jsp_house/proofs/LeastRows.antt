@@ -1,14 +1,13 @@
 -- The rows of a request's step are a choice.
-use Rattle.std.proofs.Common.{◌≡◌, ℕ, ◌<◌, true, List, [], ◌∷◌, map, take, Option, Some, None, ap, sym, ◌∙◌, arith}
-use Rattle.std.specs.Prelude.{nat_lt, option_map}
+use Rattle.std.proofs.Common.{◌≡◌, ℕ, ◌<◌, true, List, [], ◌∷◌, map, take, ap, ◌∙◌, arith}
+use Rattle.std.specs.Prelude.{nat_lt}
 use Rattle.std.proofs.lemmas.Bool.{and_parts, ltb-true}
 use Rattle.jsp_model.specs.declared.state.State.{State}
 use Rattle.jsp_model.specs.declared.state.Blocked.{Blocked}
 use Rattle.jsp_model.specs.declared.state.Row.{Row}
 use Rattle.jsp_model.specs.Limits.{are_rising}
 use Rattle.jsp_model.specs.Sight.{available}
-use Rattle.jsp_model.specs.Requests.{RowRequest, as_blocked}
-use Rattle.jsp_model.specs.Steps.{is_choice, has_its_rows}
+use Rattle.jsp_model.specs.Steps.{is_choice}
 use Rattle.jsp_laws.proofs.Lists.{Each}
 use Rattle.jsp_laws.proofs.Rising.{Rising}
 use Rattle.jsp_quiet.proofs.Progress.{first_choice}
@@ -35,9 +34,5 @@ all_rising f low high (x ∷ xs) h =
         (more, above f (f y) high n xs more parts.1)
 
 -- the least of the available rows are a choice
-pub least_chosen : (st : State) (s id : ℕ) (ns : List ℕ) (o : Option RowRequest) (b : Blocked) → are_rising 0 st.next_number (map (λ r. r.number) st.rows) ≡ true → Some b ≡ option_map (as_blocked st s id) o → ns ≡ take b.most (available st b) → has_its_rows st s id ns None o ≡ true
-least_chosen st s id ns None b rising is chosen = cc (is)
-least_chosen st s id ns (Some q) b rising is chosen =
-    let same : b ≡ as_blocked st s id q = cc (is) in
-    let first : is_choice st b ns ≡ true = ap (is_choice st b) chosen ∙ first_choice st b (all_rising (λ (r : Row). r.number) 0 st.next_number st.rows rising) in
-    ap (λ w. is_choice st w ns) (sym same) ∙ first
+pub least_chosen : (st : State) (b : Blocked) (ns : List ℕ) → are_rising 0 st.next_number (map (λ r. r.number) st.rows) ≡ true → ns ≡ take b.most (available st b) → is_choice st b ns ≡ true
+least_chosen st b ns rising chosen = ap (is_choice st b) chosen ∙ first_choice st b (all_rising (λ (r : Row). r.number) 0 st.next_number st.rows rising)

@@ -1,5 +1,5 @@
 -- The step that quiets a space further is legal, and there is one wherever the space isn't quiet.
-use Rattle.std.proofs.Common.{◌≡◌, refl, ap, subst, option_map, ◌∙◌, ℕ, ◌<◌, ◌≤◌, List, take, length, Bool, true, false, not, ◌&&◌, ◌||◌, Some, None, ◌==◌, arith}
+use Rattle.std.proofs.Common.{◌≡◌, refl, ap, subst, ◌∙◌, ℕ, ◌<◌, ◌≤◌, List, take, length, Bool, true, false, not, ◌&&◌, ◌||◌, Some, None, ◌==◌, arith}
 use Rattle.std.specs.Prelude.{find}
 use Rattle.std.specs.List.{list_all, list_any}
 use Rattle.std.proofs.lemmas.Bool.{and_parts, and_from, eqb-true, eqb-false, not-true}

@@ -11,7 +11,7 @@ use crate::finishing::finish;
 use crate::making::make;
 use crate::performing::perform_ready;
 use jsp_core::LiveImage;
-use jsp_machine::is_open;
+use jsp_machine::{Judged, is_open};
 use jsp_model::{Input, LAST_SESSION, Step, Stopped, Why};
 use jsp_types::Items;
 use std::alloc::Global;
@@ -149,7 +149,14 @@ fn open_ready(
     ensures keeps { KeepsLog image.old image.new bound log.old log.new }
     ensures why { IfErr result (λ e. MayStop bound (vec_len log.new) e.why) }
 {
-    match make(alloc, image, Step::Open { session }, None, bound, log) {
+    match make(
+        alloc,
+        image,
+        Step::Open { session },
+        Judged::Plain,
+        bound,
+        log,
+    ) {
         Err(why) => Err(Stopped { why, done: false }),
         Ok(()) => {
             debt.clear();

@@ -7,7 +7,7 @@ ghost use Rattle.jsp_model.specs.Quiet.{are_quiet};
 ghost use Rattle.jsp_model.specs.Touches.{touches as touched_by};
 ghost use Rattle.jsp_model.specs.Steps.{is_legal, next};
 ghost use Rattle.jsp_quiet.specs.Quieting.{quiets};
-ghost use Rattle.jsp_machine.specs.Judging.{refusal_in};
+ghost use Rattle.jsp_machine.specs.Judging.{judged_in};
 ghost use Rattle.jsp_house.specs.Making.{KeepsLog};
 ghost use Rattle.jsp_house.specs.Owing.{IsDone};
 
@@ -18,9 +18,8 @@ use crate::quieting::quieting_of;
 use crate::to_come::Coming;
 use jsp_core::LiveImage;
 use jsp_lease::Item;
-use jsp_machine::{due, touches};
+use jsp_machine::{Judged, due, touches};
 use jsp_model::{Step, Why};
-use jsp_reply::Refusal;
 use jsp_types::NoMemory;
 use std::alloc::Global;
 
@@ -43,7 +42,7 @@ pub(crate) fn finish<T: Coming>(
     ensures why { IfErr result (λ w. MayStop bound (vec_len log.new) w) }
 {
     'steps: while let Some(step) = next_step(alloc, image, debt.as_slice(), to_come)? {
-        make_owing(alloc, image, debt, step, None, bound, log)?;
+        make_owing(alloc, image, debt, step, Judged::Plain, bound, log)?;
     }
     Ok(())
 }
@@ -54,12 +53,12 @@ pub(crate) fn make_owing(
     image: &mut LiveImage,
     debt: &mut Vec<u64>,
     step: Step,
-    refused: Option<Refusal>,
+    judged: Judged,
     bound: Option<u64>,
     log: &mut Vec<Step>,
 ) -> Result<(), Why>
     requires legal { IsTrue (is_legal image.old step) }
-    requires refused { refused ≡ refusal_in image.old step }
+    requires judged { judged ≡ judged_in image.old step }
     ensures made { OnOk result (image.new ≡ next image.old step) }
     ensures log { OnOk result (log.new.items ≡ log.old.items ++ step ∷ []) }
     ensures owes { OnOk result (Covers debt.new.items (touched_by image.old step)) }
@@ -71,7 +70,7 @@ pub(crate) fn make_owing(
 {
     let spaces = touches(alloc, image, &step)?;
     owe(debt, spaces.as_slice())?;
-    make(alloc, image, step, refused, bound, log)
+    make(alloc, image, step, judged, bound, log)
 }
 
 /// The next step that nobody has to ask for: one that quiets a space that is owed; else what is

@@ -2,28 +2,27 @@
 ghost use Rattle.std.specs.Prelude.{◌≡◌, ◌<◌, ◌≤◌, ◌+◌, ◌-◌, ◌++◌, ◌∷◌, [], OnOk, OnErr, IfErr, IsTrue, length, vec_len, vec_capacity};
 ghost use Rattle.jsp_model.specs.House.{MayStop, is_full as reaches};
 ghost use Rattle.jsp_model.specs.Steps.{is_legal, next};
-ghost use Rattle.jsp_machine.specs.Judging.{refusal_in};
+ghost use Rattle.jsp_machine.specs.Judging.{judged_in};
 ghost use Rattle.jsp_house.specs.Making.{KeepsLog};
 
 use jsp_core::{Core, LiveImage};
-use jsp_machine::apply_judged;
+use jsp_machine::{Judged, apply_judged};
 use jsp_model::{Step, Why};
-use jsp_reply::Refusal;
 use jsp_table::make_room;
 use jsp_types::NoMemory;
 use std::alloc::Global;
 
-/// Makes a legal step and enters it in the log, whole or not at all.
+/// Makes a legal step, whose request was judged so, and enters it in the log, whole or not at all.
 pub(crate) fn make(
     alloc: Global,
     image: &mut LiveImage,
     step: Step,
-    refused: Option<Refusal>,
+    judged: Judged,
     bound: Option<u64>,
     log: &mut Vec<Step>,
 ) -> Result<(), Why>
     requires legal { IsTrue (is_legal image.old step) }
-    requires refused { refused ≡ refusal_in image.old step }
+    requires judged { judged ≡ judged_in image.old step }
     ensures made { OnOk result (image.new ≡ next image.old step) }
     ensures log { OnOk result (log.new.items ≡ log.old.items ++ step ∷ []) }
     ensures err { OnErr result ((image.new ≡ image.old) × (log.new.items ≡ log.old.items)) }
@@ -33,7 +32,7 @@ pub(crate) fn make(
     if is_full(log, bound) {
         return Err(Why::EraFull);
     }
-    make_within(alloc, image, step, refused, log)?;
+    make_within(alloc, image, step, judged, log)?;
     Ok(())
 }
 
@@ -52,11 +51,11 @@ fn make_within(
     alloc: Global,
     image: &mut LiveImage,
     step: Step,
-    refused: Option<Refusal>,
+    judged: Judged,
     log: &mut Vec<Step>,
 ) -> Result<(), NoMemory>
     requires legal { IsTrue (is_legal image.old step) }
-    requires refused { refused ≡ refusal_in image.old step }
+    requires judged { judged ≡ judged_in image.old step }
     ensures made { OnOk result (image.new ≡ next image.old step) }
     ensures log { OnOk result (log.new.items ≡ log.old.items ++ step ∷ []) }
     ensures err { OnErr result ((image.new ≡ image.old) × (log.new.items ≡ log.old.items)) }
@@ -66,7 +65,7 @@ fn make_within(
     ensures same { OnErr result (vec_len log.new ≡ vec_len log.old) }
 {
     reserve_places(image.state(), log)?;
-    apply_judged(alloc, image, &step, refused)?;
+    apply_judged(alloc, image, &step, judged)?;
     enter(log, step);
     Ok(())
 }

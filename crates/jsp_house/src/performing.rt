@@ -5,24 +5,23 @@ ghost use Rattle.jsp_model.specs.House.{Covers, OwesOnce, MayStop, WasFull, Fini
 ghost use Rattle.jsp_model.specs.Limits.{IsWithinLimits};
 ghost use Rattle.jsp_model.specs.Touches.{touches as touched_by};
 ghost use Rattle.jsp_model.specs.Steps.{next};
-ghost use Rattle.jsp_machine.specs.Judging.{refusal_in};
+ghost use Rattle.jsp_machine.specs.Judging.{judged_in};
 ghost use Rattle.jsp_house.specs.Making.{KeepsLog, Performs, MakesOwn, may_come, has_rows};
 ghost use Rattle.jsp_house.specs.Owing.{IsDone};
 
 use crate::choosing::choose_rows;
 use crate::finishing::{finish, make_owing};
 use jsp_core::{Core, LiveImage};
-use jsp_machine::refusal;
+use jsp_machine::{Judged, judge};
 use jsp_model::{Step, Stopped, Why};
-use jsp_reply::Refusal;
 use jsp_types::NoMemory;
 use std::alloc::Global;
 
-/// A step that was asked for, with its rows, and why its request is refused, where it is.
+/// A step that was asked for, with its rows, and what was found out of its request.
 #[derive(Drop)]
 struct Own {
     step: Step,
-    refused: Option<Refusal>,
+    judged: Judged,
 }
 
 /// Quiets what the step touches, makes it, and then what follows from it by itself.
@@ -88,30 +87,31 @@ fn make_own(
     ensures why { IfErr result (λ w. MayStop bound (vec_len log.new) w) }
 {
     let own = with_rows(alloc, image.state(), step)?;
-    make_owing(alloc, image, debt, own.step, own.refused, bound, log)
+    make_owing(alloc, image, debt, own.step, own.judged, bound, log)
 }
 
-/// The step, and the rows that its request is given.
+/// The step with the rows that its request is given. It is judged here once, for all that comes of
+/// it.
 fn with_rows(alloc: Global, state: &Core, step: Step) -> Result<Own, NoMemory>
     requires { IsWithinLimits state.now }
     ensures same { IfOk result (λ own. bare own.step ≡ bare step) }
     ensures rows { IfOk result (λ own. has_rows state.now own.step ≡ true) }
-    ensures refused { IfOk result (λ own. own.refused ≡ refusal_in state.now own.step) }
+    ensures judged { IfOk result (λ own. own.judged ≡ judged_in state.now own.step) }
 {
     match step {
         Step::Ask { session, asked, .. } => {
-            let refused = refusal(alloc, state, session, asked.id(), asked.ask())?;
-            let rows = choose_rows(alloc, state, session, asked.id(), asked.ask(), refused)?;
+            let judged = judge(alloc, state, session, asked.id(), asked.ask())?;
+            let rows = choose_rows(alloc, state, &judged)?;
             let step = Step::Ask {
                 session,
                 asked,
                 rows,
             };
-            Ok(Own { step, refused })
+            Ok(Own { step, judged })
         }
         other => Ok(Own {
             step: other,
-            refused: None,
+            judged: Judged::Plain,
         }),
     }
 }

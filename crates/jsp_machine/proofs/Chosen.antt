@@ -1,6 +1,6 @@
 -- The rows that stand in a step.
 use Rattle.std.proofs.Common.{◌≡◌, ℕ, ◌≤◌, true, false, nat_lt, nat_le, min, List, length, Option, Some, None, refl, ap, sym, ◌∙◌, arith, eqb-true}
-use Rattle.std.specs.Prelude.{◌&&◌, ◌||◌, ◌==◌, option_map, is_none, ◌+◌, ◌^◌}
+use Rattle.std.specs.Prelude.{◌&&◌, ◌||◌, ◌==◌, is_none, ◌+◌, ◌^◌}
 use Rattle.std.specs.List.{list_all}
 use Rattle.std.specs.Option.{option_map_or}
 use Rattle.std.proofs.lemmas.Bool.{and_parts}
@@ -19,20 +19,13 @@ use Rattle.jsp_model.specs.Quiet.{are_quiet}
 use Rattle.jsp_model.specs.Due.{due}
 use Rattle.jsp_model.specs.Touches.{touches}
 use Rattle.jsp_model.specs.Refusals.{refusal}
-use Rattle.jsp_model.specs.Requests.{RowRequest, rows_asked, as_blocked}
+use Rattle.jsp_model.specs.Requests.{RowRequest, rows_asked}
 use Rattle.jsp_model.specs.Answers.{is_many}
 use Rattle.jsp_model.specs.Steps.{is_rising, is_choice, has_its_rows, is_legal}
 use Rattle.jsp_model.specs.Limits.{is_blocked, IsWithinLimits}
 use Rattle.jsp_model.proofs.Apart.{refusal_apart}
 use Rattle.jsp_limits.proofs.Lists.{found_all}
 use Rattle.jsp_machine.specs.Changing.{has_its_choice}
-
--- the rows of a request for rows are a choice for it as it waits
-pub chosen_is : (st : State) (s id : ℕ) (ns : List ℕ) (o : Option RowRequest) (b : Blocked) → Some b ≡ option_map (as_blocked st s id) o → is_choice st b ns ≡ has_its_rows st s id ns None o
-chosen_is st s id ns None b h = absurd (cc (h))
-chosen_is st s id ns (Some q) b h =
-    let same : b ≡ as_blocked st s id q = cc (h) in
-    ap (λ (w : Blocked). is_choice st w ns) same
 
 -- ---- legal steps
 
@@ -88,13 +81,18 @@ one_of_a_read form.Take most t h = absurd (cc (t))
 one_of_a_read form.TakeIf most t h = absurd (cc (t))
 one_of_a_read form.TakeMany most t h = absurd (cc (t))
 
+-- a choice tells how many rows it gives
+pub one_chosen : (st : State) (b : Blocked) (ns : List ℕ) → is_choice st b ns ≡ true → b.most ≡ 1 → length ns ≤ 1
+one_chosen st b ns h one =
+    let count = eqb-true (length ns) (min b.most (length (available st b))) (and_parts (is_rising ns && list_all (contains (available st b)) ns) (length ns == min b.most (length (available st b))) h).1 in
+    omega (arith, count, one)
+
 chosen : (st : State) (n : ℕ) (ns : List ℕ) (b : Blocked) → blocked_of st n ≡ Some b → option_map_or (λ b. is_choice st b ns) (blocked_of st n) true ≡ true → is_choice st b ns ≡ true
 chosen st n ns b is h = sym (ap (λ (o : Option Blocked). option_map_or (λ b. is_choice st b ns) o true) is) ∙ h
 
 pub read_is_given_one : (st : State) (n : ℕ) (ns : List ℕ) → IsWithinLimits st → has_its_choice st (step.Grant n ns) ≡ true → (b : Blocked) → blocked_of st n ≡ Some b → is_take b.form ≡ false → length ns ≤ 1
 read_is_given_one st n ns limits h b is t =
-    let count = eqb-true (length ns) (min b.most (length (available st b))) (and_parts (is_rising ns && list_all (contains (available st b)) ns) (length ns == min b.most (length (available st b))) (chosen st n ns b is h)).1 in
     let found = (found_all (is_blocked (length st.spaces)) (λ b. b.number == n) st.blocked b limits.blocked.each is).0 in
     let one = one_of_a_read b.form b.most t
     (and_parts (nat_lt b.space (length st.spaces) && nat_le b.end (2 ^ 62 + 1) && list_all is_small_template b.templates && nat_le 1 (length b.templates) && nat_le (length b.templates) 8 && nat_le 1 b.most && nat_le b.most 16) (is_many b.form || b.most == 1) found).1 in
-    omega (arith, count, one)
+    one_chosen st b ns (chosen st n ns b is h) one

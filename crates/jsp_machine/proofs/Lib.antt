@@ -2,6 +2,6 @@ pub mod Chosen
 pub mod RunSoFar
 pub mod Sequences
 pub mod Stepping
-pub mod Judging
+pub mod JudgedRequests
 pub mod OnOffer
 pub mod Stirred

@@ -26,7 +26,7 @@ use Rattle.jsp_quiet.proofs.Lists.{any_alike}
 use Rattle.jsp_quiet.proofs.Declaring.{declaring_stays}
 use Rattle.jsp_quiet.proofs.Waking.{waiting_comes}
 use Rattle.jsp_quiet.proofs.Conflicts.{conflict_stays}
-use Rattle.jsp_sight.specs.Rows.{wanted, unmarked}
+use Rattle.jsp_sight.specs.Rows.{unmarked}
 use Rattle.jsp_wait.specs.Offered.{waits_for}
 use Rattle.jsp_core.specs.Offering.{is_offered, are_stirred}
 use Rattle.jsp_state.specs.Outboxes.{after_handing}

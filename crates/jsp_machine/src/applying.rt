@@ -6,11 +6,11 @@ ghost use Rattle.jsp_model.specs.Answers.{said as said_by};
 ghost use Rattle.jsp_model.specs.Steps.{is_legal, next};
 ghost use Rattle.jsp_model.specs.Outboxes.{outbox_of};
 ghost use Rattle.jsp_model.specs.Limits.{IsWithinLimits};
-ghost use Rattle.jsp_machine.specs.Judging.{refusal_in as refused_in};
+ghost use Rattle.jsp_machine.specs.Judging.{judged_in};
 ghost use Rattle.jsp_machine.specs.Posting.{with_posted, without_posted};
 ghost use Rattle.jsp_model.proofs.Outboxes.{is_hand_out};
 
-use crate::judge::refusal_in;
+use crate::judging::judge_in;
 use crate::offering::offer_let_go;
 use crate::saying::said_judged;
 use crate::step_change::change;
@@ -19,7 +19,8 @@ use crate::stirring::stir;
 use jsp_core::{Core, LiveImage};
 use jsp_model::Step;
 use jsp_outbox::Posted;
-use jsp_reply::{Refusal, Said};
+use jsp_reply::Said;
+use jsp_requests::Judged;
 use jsp_state::{close, hand_out as hand_out_of, withdraw};
 use jsp_types::NoMemory;
 use std::alloc::Global;
@@ -31,20 +32,19 @@ pub fn apply(alloc: Global, image: &mut LiveImage, step: &Step) -> Result<(), No
     ensures err { OnErr result (image.new ≡ image.old) }
     ensures limits { IsWithinLimits image.new }
 {
-    let refused = refusal_in(alloc, image.state(), step)?;
-    apply_judged(alloc, image, step, refused)
+    let judged = judge_in(alloc, image.state(), step)?;
+    apply_judged(alloc, image, step, judged)
 }
 
-/// The same where its request is refused for this reason, or isn't: for a caller that has found out
-/// already.
+/// The same of a step whose request was judged so.
 pub fn apply_judged(
     alloc: Global,
     image: &mut LiveImage,
     step: &Step,
-    refused: Option<Refusal>,
+    judged: Judged,
 ) -> Result<(), NoMemory>
     requires legal { IsTrue (is_legal image.old step.now) }
-    requires refused { refused ≡ refused_in image.old step.now }
+    requires judged { judged ≡ judged_in image.old step.now }
     ensures ok { OnOk result (image.new ≡ next image.old step.now) }
     ensures err { OnErr result (image.new ≡ image.old) }
     ensures limits { IsWithinLimits image.new }
@@ -53,7 +53,7 @@ pub fn apply_judged(
         let _answers = hand_out(alloc, image, *session, *count as usize)?;
         return Ok(());
     }
-    make_and_offer(alloc, image, step, refused)?;
+    make_and_offer(alloc, image, step, judged)?;
     withdraw(image);
     Ok(())
 }
@@ -64,22 +64,22 @@ fn make_and_offer(
     alloc: Global,
     image: &mut LiveImage,
     step: &Step,
-    refused: Option<Refusal>,
+    judged: Judged,
 ) -> Result<(), NoMemory>
     requires legal { IsTrue (is_legal image.old step.now) }
-    requires refused { refused ≡ refused_in image.old step.now }
+    requires judged { judged ≡ judged_in image.old step.now }
     requires no_hand_out { is_hand_out step.now ≡ false }
     ensures ok { OnOk result (image.new ≡ next image.old step.now) }
     ensures err { OnErr result (image.new ≡ image.old) }
     ensures limits { IsWithinLimits image.new }
 {
     keeps_its_request(step);
-    let sayings = said_judged(alloc, image, step, refused)?;
+    let sayings = said_judged(alloc, image, step, &judged)?;
     let first_new = next_number(&image.state);
     let is_steady = image.is_steady;
     offer_let_go(alloc, &image.state, &mut image.offers, step, is_steady);
     stir(alloc, &image.state, &mut image.stirred, step, is_steady);
-    let made = make(alloc, &mut image.state, step, refused, sayings);
+    let made = make(alloc, &mut image.state, step, judged, sayings);
     let past_new = next_number(&image.state);
     image.offers.add_between(first_new, past_new);
     made
@@ -97,19 +97,19 @@ fn make(
     alloc: Global,
     state: &mut Core,
     step: &Step,
-    refused: Option<Refusal>,
+    judged: Judged,
     sayings: Vec<(u64, Said)>,
 ) -> Result<(), NoMemory>
     requires limits { IsWithinLimits state.old }
     requires legal { is_legal state.old step.now ≡ true }
-    requires refused { refused ≡ refused_in state.old step.now }
+    requires judged { judged ≡ judged_in state.old step.now }
     requires sayings { sayings.items ≡ said_by state.old step.now }
     requires no_hand_out { is_hand_out step.now ≡ false }
     ensures ok { OnOk result (state.new ≡ next state.old step.now) }
     ensures err { OnErr result (state.new ≡ state.old) }
 {
     let posts = post_in(alloc, state, sayings)?;
-    if let Err(e) = change(alloc, state, step, refused) {
+    if let Err(e) = change(alloc, state, step, judged) {
         take_back_in(state, posts);
         return Err(e);
     }

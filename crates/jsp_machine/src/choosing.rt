@@ -1,18 +1,19 @@
 //! Whether a request may be asked, given rows, or answered that there is nothing.
-ghost use Rattle.std.specs.Prelude.{◌≡◌, ◌≤◌, ◌^◌, None, IfOk};
+ghost use Rattle.std.specs.Prelude.{◌≡◌, IfOk};
 ghost use Rattle.jsp_model.specs.declared.step.Step.TheVariants as step;
 ghost use Rattle.jsp_model.specs.Refusals.{refusal as refusal_of};
 ghost use Rattle.jsp_model.specs.Requests.{rows_asked};
 ghost use Rattle.jsp_model.specs.Steps.{is_legal as legal, has_its_rows as has_rows};
-ghost use Rattle.jsp_model.specs.declared.limits.TheConstants.{LAST_TIME};
+ghost use Rattle.jsp_requests.specs.Judging.{judged as judged_of};
+ghost use Rattle.jsp_machine.specs.Judging.{fits as fits_judged};
 
 use crate::touching::{are_quiet, ask_touches};
 use jsp_core::{Core, LiveImage};
 use jsp_entries::blocked_named;
-use jsp_requests::{refusal, request_for_rows};
+use jsp_requests::Judged;
 use jsp_state::{due, has_conflict, has_none, is_choice, is_if, is_open};
 use jsp_types::NoMemory;
-use jsp_wire::{Ask, Asked};
+use jsp_wire::Asked;
 use std::alloc::Global;
 
 /// A request is asked only where nothing is due and each space that it touches is quiet.
@@ -23,12 +24,14 @@ pub(crate) fn may_ask(
     session: u64,
     asked: &Asked,
     rows: &[u64],
+    judged: &Judged,
 ) -> Result<bool, NoMemory>
+    requires { judged.now ≡ judged_of image.now session asked.now.id asked.now.ask }
     ensures { IfOk result (λ b. b ≡ legal image.now (step.Ask session asked.now rows.now)) }
 {
     let state = image.state();
     let spaces = ask_touches(alloc, state, asked.ask())?;
-    let has_rows = has_its_rows(alloc, state, session, asked, rows)?;
+    let has_rows = has_its_rows(state, session, asked, rows, judged);
     Ok(
         is_open(state, session)
             && due(state).is_none()
@@ -39,39 +42,19 @@ pub(crate) fn may_ask(
 
 /// Whether the rows of a request's step are a choice, where it is for rows and isn't refused, and
 /// else none.
-fn has_its_rows(
-    alloc: Global,
-    state: &Core,
-    session: u64,
-    asked: &Asked,
-    rows: &[u64],
-) -> Result<bool, NoMemory>
-    requires { state.now.time ≤ LAST_TIME }
-    ensures { IfOk result (λ b. b ≡ has_rows state.now session asked.now.id rows.now (refusal_of state.now session asked.now.id asked.now.ask) (rows_asked asked.now.ask)) }
+fn has_its_rows(state: &Core, session: u64, asked: &Asked, rows: &[u64], judged: &Judged) -> bool
+    requires { judged.now ≡ judged_of state.now session asked.now.id asked.now.ask }
+    ensures { result ≡ has_rows state.now session asked.now.id rows.now (refusal_of state.now session asked.now.id asked.now.ask) (rows_asked asked.now.ask) }
 {
-    let id = asked.id();
-    let ask = asked.ask();
-    match refusal(alloc, state, session, id, ask)? {
-        Some(_) => Ok(rows.is_empty()),
-        None => are_chosen(alloc, state, session, id, ask, rows),
-    }
+    fits(state, judged, rows)
 }
 
-fn are_chosen(
-    alloc: Global,
-    state: &Core,
-    session: u64,
-    id: u64,
-    ask: &Ask,
-    rows: &[u64],
-) -> Result<bool, NoMemory>
-    requires time { state.now.time ≤ LAST_TIME }
-    requires accepted { refusal_of state.now session id ask.now ≡ None }
-    ensures { IfOk result (λ b. b ≡ has_rows state.now session id rows.now None (rows_asked ask.now)) }
+fn fits(state: &Core, judged: &Judged, rows: &[u64]) -> bool
+    ensures { result ≡ fits_judged state.now judged.now rows.now }
 {
-    match request_for_rows(alloc, state, session, id, ask)? {
-        None => Ok(rows.is_empty()),
-        Some(blocked) => Ok(is_choice(state, &blocked, rows)),
+    match judged {
+        Judged::Rows(wanted) => is_choice(state, &wanted.request, rows),
+        Judged::Refused(_) | Judged::Plain => rows.is_empty(),
     }
 }
 

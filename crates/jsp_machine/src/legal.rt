@@ -2,19 +2,36 @@
 ghost use Rattle.std.specs.Prelude.{◌≡◌, ◌^◌, IfOk};
 ghost use Rattle.jsp_model.specs.declared.step.Step.TheVariants as step;
 ghost use Rattle.jsp_model.specs.Steps.{is_legal as legal, is_fault as is_a_fault};
+ghost use Rattle.jsp_machine.specs.Judging.{judged_in};
 
 use crate::choosing::{may_ask, may_grant, may_say_nothing};
 use crate::deciding::{may_decide, may_end, may_vote};
+use crate::judging::judge_in;
 use crate::telling::may_tell;
 use jsp_core::{Core, LiveImage};
 use jsp_model::{LAST_SESSION, Step};
 use jsp_reply::Refusal;
+use jsp_requests::Judged;
 use jsp_state::{is_open, waiting};
 use jsp_types::NoMemory;
 use std::alloc::Global;
 
 /// Whether the step is legal in the state (which steps there are is this profile's own).
 pub fn is_legal(alloc: Global, image: &LiveImage, step: &Step) -> Result<bool, NoMemory>
+    ensures { IfOk result (λ b. b ≡ legal image.now step.now) }
+{
+    let judged = judge_in(alloc, image.state(), step)?;
+    is_legal_judged(alloc, image, step, &judged)
+}
+
+/// The same of a step whose request was judged so.
+pub(crate) fn is_legal_judged(
+    alloc: Global,
+    image: &LiveImage,
+    step: &Step,
+    judged: &Judged,
+) -> Result<bool, NoMemory>
+    requires { judged.now ≡ judged_in image.now step.now }
     ensures { IfOk result (λ b. b ≡ legal image.now step.now) }
 {
     let state = image.state();
@@ -26,7 +43,7 @@ pub fn is_legal(alloc: Global, image: &LiveImage, step: &Step) -> Result<bool, N
             session,
             asked,
             rows,
-        } => may_ask(alloc, image, *session, asked, rows.as_slice()),
+        } => may_ask(alloc, image, *session, asked, rows.as_slice(), judged),
         Step::Fault {
             session,
             id,

@@ -16,7 +16,7 @@ mod applying;
 mod choosing;
 mod deciding;
 mod emptiness;
-mod judge;
+mod judging;
 mod legal;
 mod offering;
 mod replaying;
@@ -30,7 +30,7 @@ mod touching;
 
 pub use applying::{apply, apply_judged, hand_out, shut};
 pub use emptiness::empty_image;
-pub use jsp_requests::{refusal, request_for_rows};
+pub use jsp_requests::{Judged, judge};
 pub use jsp_state::{choose, due, first_end, is_open, is_quiet, waiting};
 pub use legal::is_legal;
 pub use replaying::{ReplayFault, Replayed, replay, replay_from};

@@ -5,15 +5,18 @@ ghost use Rattle.jsp_model.specs.Answers.{said as said_by};
 ghost use Rattle.jsp_model.specs.Steps.{is_legal as legal, next};
 ghost use Rattle.jsp_model.specs.Runs.{IsRun, state_after, said_in, first_illegal};
 ghost use Rattle.jsp_laws.specs.Runs.{LawsOfRuns};
+ghost use Rattle.jsp_machine.specs.Judging.{judged_in};
 ghost use Rattle.jsp_machine.specs.Replay.{FailsAt, StopsAt};
 
-use crate::applying::apply;
+use crate::applying::apply_judged;
 use crate::emptiness::empty_image;
-use crate::legal::is_legal;
-use crate::saying::said;
+use crate::judging::judge_in;
+use crate::legal::is_legal_judged;
+use crate::saying::said_judged;
 use jsp_core::{Keeping, LiveImage};
 use jsp_model::{Config, Image, Step};
 use jsp_reply::Said;
+use jsp_requests::Judged;
 use jsp_types::NoMemory;
 use std::alloc::Global;
 use thiserror::Error;
@@ -101,8 +104,9 @@ fn run_steps(
 {
     let mut told = Vec::new(alloc);
     for (place, step) in steps.iter().enumerate() {
-        check_step(alloc, image, step, place)?;
-        make_step(alloc, image, &mut told, step)?;
+        let judged = judge_in(alloc, image.state(), step)?;
+        check_step(alloc, image, step, &judged, place)?;
+        make_step(alloc, image, &mut told, step, judged)?;
     }
     Ok(told)
 }
@@ -112,12 +116,14 @@ fn check_step(
     alloc: Global,
     image: &LiveImage,
     step: &Step,
+    judged: &Judged,
     place: usize,
 ) -> Result<(), ReplayFault>
+    requires { judged.now ≡ judged_in image.now step.now }
     ensures ok { OnOk result (legal image.now step.now ≡ true) }
     ensures err { IfErr result (λ e. StopsAt e place (legal image.now step.now)) }
 {
-    if is_legal(alloc, image, step)? {
+    if is_legal_judged(alloc, image, step, judged)? {
         Ok(())
     } else {
         Err(ReplayFault::Illegal(place))
@@ -130,14 +136,16 @@ fn make_step(
     image: &mut LiveImage,
     told: &mut Vec<(u64, Said)>,
     step: &Step,
+    judged: Judged,
 ) -> Result<(), NoMemory>
-    requires { IsTrue (legal image.old step.now) }
+    requires legal { IsTrue (legal image.old step.now) }
+    requires judged { judged ≡ judged_in image.old step.now }
     ensures made { OnOk result (image.new ≡ next image.old step.now) }
     ensures told { OnOk result (told.new.items ≡ told.old.items ++ said_by image.old step.now) }
 {
-    let mut sayings = said(alloc, image, step)?;
+    let mut sayings = said_judged(alloc, image, step, &judged)?;
     told.append(&mut sayings)?;
-    apply(alloc, image, step)?;
+    apply_judged(alloc, image, step, judged)?;
     // No space is to be looked through because of what was decided before.
     image.apply_all();
     Ok(())

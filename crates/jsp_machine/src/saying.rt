@@ -5,14 +5,15 @@ ghost use Rattle.jsp_reply.specs.Limits.{is_within_limits};
 ghost use Rattle.jsp_model.specs.Lookup.{is_open as has_open};
 ghost use Rattle.jsp_model.specs.Answers.{Saying, said as said_by};
 ghost use Rattle.jsp_model.specs.Steps.{is_legal};
-ghost use Rattle.jsp_machine.specs.Judging.{refusal_in as refused_in};
+ghost use Rattle.jsp_machine.specs.Judging.{judged_in};
 
 use crate::answering::all_said;
-use crate::judge::refusal_in;
+use crate::judging::judge_in;
 use crate::step_request::keeps_its_request;
 use jsp_core::{Core, LiveImage};
 use jsp_model::Step;
-use jsp_reply::{Refusal, Reply, Said};
+use jsp_reply::{Reply, Said};
+use jsp_requests::Judged;
 use jsp_state::is_open;
 use jsp_types::NoMemory;
 use std::alloc::Global;
@@ -23,24 +24,24 @@ pub fn said(alloc: Global, image: &LiveImage, step: &Step) -> Result<Vec<(u64, S
     requires { IsTrue (is_legal image.now step.now) }
     ensures { IfOk result (λ v. v.items ≡ said_by image.now step.now) }
 {
-    let refused = refusal_in(alloc, image.state(), step)?;
-    said_judged(alloc, image, step, refused)
+    let judged = judge_in(alloc, image.state(), step)?;
+    said_judged(alloc, image, step, &judged)
 }
 
-/// The same where its request is refused for this reason, or isn't.
+/// The same of a step whose request was judged so.
 pub(crate) fn said_judged(
     alloc: Global,
     image: &LiveImage,
     step: &Step,
-    refused: Option<Refusal>,
+    judged: &Judged,
 ) -> Result<Vec<(u64, Said)>, NoMemory>
     requires legal { IsTrue (is_legal image.now step.now) }
-    requires refused { refused ≡ refused_in image.now step.now }
+    requires judged { judged.now ≡ judged_in image.now step.now }
     ensures { IfOk result (λ v. v.items ≡ said_by image.now step.now) }
 {
     keeps_its_request(step);
     let state = image.state();
-    let mut replies = all_said(alloc, state, step, refused)?;
+    let mut replies = all_said(alloc, state, step, judged)?;
     drop_unheard(state, &mut replies);
     within_limits(alloc, replies)
 }

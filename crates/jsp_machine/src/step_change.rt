@@ -5,31 +5,32 @@ ghost use Rattle.jsp_model.specs.Requests.{rows_asked};
 ghost use Rattle.jsp_model.specs.Steps.{change as changed, after_ask, has_its_rows};
 ghost use Rattle.jsp_model.specs.Limits.{IsWithinLimits};
 ghost use Rattle.jsp_machine.specs.Changing.{has_its_choice, at_time, after_fault, decided};
-ghost use Rattle.jsp_machine.specs.Judging.{refusal_in};
+ghost use Rattle.jsp_requests.specs.Judging.{judged as judged_of};
+ghost use Rattle.jsp_machine.specs.Judging.{judged_in};
 
 use jsp_core::Core;
-use jsp_entries::{grant, unblock};
+use jsp_entries::{accept_rows, grant, unblock};
 use jsp_grants::tell;
 use jsp_model::{LAST_TIME, Step};
 use jsp_reply::Refusal;
-use jsp_requests::accept;
+use jsp_requests::{Judged, accept};
 use jsp_state::{close, open};
 use jsp_transactions::{abort, cast_vote, commit, remove};
 use jsp_types::NoMemory;
 use jsp_wire::Asked;
 use std::alloc::Global;
 
-/// Makes the change of a step, whole or not at all, where its request is refused for this reason,
-/// or isn't. What waits to be handed out stays.
+/// Makes the change of a step, whole or not at all, where its request was judged so. What waits to
+/// be handed out stays.
 pub(crate) fn change(
     alloc: Global,
     state: &mut Core,
     step: &Step,
-    refused: Option<Refusal>,
+    judged: Judged,
 ) -> Result<(), NoMemory>
     requires limits { IsWithinLimits state.old }
     requires choice { has_its_choice state.old step.now ≡ true }
-    requires refused { refused ≡ refusal_in state.old step.now }
+    requires judged { judged ≡ judged_in state.old step.now }
     ensures ok { OnOk result (state.new ≡ changed state.old step.now) }
     ensures err { OnErr result (state.new ≡ state.old) }
 {
@@ -41,7 +42,7 @@ pub(crate) fn change(
             session,
             asked,
             rows,
-        } => return ask(alloc, state, *session, asked, rows.as_slice(), refused),
+        } => return ask(alloc, state, *session, asked, rows.as_slice(), judged),
         Step::Fault {
             session,
             refusal,
@@ -75,19 +76,20 @@ fn ask(
     session: u64,
     asked: &Asked,
     rows: &[u64],
-    refused: Option<Refusal>,
+    judged: Judged,
 ) -> Result<(), NoMemory>
     requires limits { IsWithinLimits state.old }
     requires choice { has_its_rows state.old session asked.now.id rows.now (refusal_of state.old session asked.now.id asked.now.ask) (rows_asked asked.now.ask) ≡ true }
-    requires refused { refused ≡ refusal_of state.old session asked.now.id asked.now.ask }
+    requires judged { judged ≡ judged_of state.old session asked.now.id asked.now.ask }
     ensures ok { OnOk result (state.new ≡ after_ask state.old session asked.now.id rows.now asked.now.ask (refusal_of state.old session asked.now.id asked.now.ask)) }
     ensures err { OnErr result (state.new ≡ state.old) }
 {
     let id = asked.id();
     let ask = asked.ask();
-    match refused {
-        Some(_) => Ok(()),
-        None => accept(alloc, state, session, id, ask, rows),
+    match judged {
+        Judged::Refused(_) => Ok(()),
+        Judged::Rows(wanted) => accept_rows(state, wanted, rows),
+        Judged::Plain => accept(alloc, state, session, id, ask),
     }
 }
 

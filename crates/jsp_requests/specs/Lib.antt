@@ -1,3 +1,4 @@
 pub mod Cancelling
 pub mod Greeting
+pub mod Judging
 pub mod Telling

@@ -5,12 +5,11 @@ ghost use Rattle.std.specs.List.{list_all};
 ghost use Rattle.jsp_types.specs.Tests.{first_that};
 ghost use Rattle.jsp_wire.specs.Limits.{has_fitting_parts};
 ghost use Rattle.jsp_model.specs.Lookup.{named as number_named};
-ghost use Rattle.jsp_model.specs.Limits.{are_rising, bearers};
-ghost use Rattle.jsp_model.specs.Requests.{rows_asked, as_blocked as waiting_as};
+ghost use Rattle.jsp_model.specs.Limits.{bearers};
+ghost use Rattle.jsp_model.specs.Requests.{rows_asked};
 ghost use Rattle.jsp_model.specs.Refusals.{refusal as refusal_of, own_tests};
 ghost use Rattle.jsp_model.specs.Changes.{accepted, begin as begun};
 ghost use Rattle.jsp_model.specs.Answers.{answer as answer_of, told_others as others_told, answer_commit as commit_answered, refuse_under as refused_under, aborted_reply};
-ghost use Rattle.jsp_model.specs.Steps.{has_its_rows};
 ghost use Rattle.jsp_requests.specs.Greeting.{greets};
 ghost use Rattle.jsp_model.specs.declared.limits.TheConstants.{LAST_CRASH_COUNT, LAST_NUMBER, LAST_TIME};
 
@@ -20,15 +19,14 @@ use crate::telling::{answer_commit, refuse_at, refuse_under};
 use crate::transaction::{refuse_begin, refuse_commit, refuse_reset, refuse_transaction, state_of};
 use jsp_core::Core;
 use jsp_entries::{
-    accept_declare, accept_entries, accept_entry, accept_many, accept_one, answer_entries,
-    answer_leased, answer_many, answer_one, refuse_declare, refuse_entries, refuse_entry,
-    refuse_many, refuse_one, waiting_many, waiting_one,
+    accept_declare, accept_entries, accept_entry, answer_entries, answer_leased, refuse_declare,
+    refuse_entries, refuse_entry, refuse_many, refuse_one,
 };
 use jsp_grants::{
     accept_contents, accept_notify, answer_next, close_set, refuse_contents, refuse_notify,
     refuse_set, turn_page,
 };
-use jsp_model::{Blocked, Form};
+use jsp_model::Form;
 use jsp_reply::{Refusal, Reply};
 use jsp_state::{close, is_waiting, named, names_of, place_of, set_version};
 use jsp_transactions::{abort, ask_commit, begin, reset};
@@ -79,6 +77,8 @@ fn own_refusal(
     ensures { IfOk result (λ r. r ≡ first_that (own_tests state.now session id ask.now)) }
 {
     match ask {
+        Ask::RenewAll { .. } | Ask::CancelAll { .. } | Ask::Spaces | Ask::Bye | Ask::Hello { .. } =>
+            Ok(None),
         Ask::Declare(declare) => refuse_declare(alloc, state, declare),
         Ask::Write(write) => Ok(refuse_entry(state, write)),
         Ask::Read(search) => refuse_one(alloc, state, session, id, Form::Read, search),
@@ -88,16 +88,11 @@ fn own_refusal(
         Ask::Notify(notify) => Ok(refuse_notify(state, session, id, notify)),
         Ask::Renew { lease, ms } => Ok(refuse_renew(state, lease, ms)),
         Ask::Cancel { lease } => Ok(refuse_cancel(state, lease)),
-        Ask::RenewAll { .. } => Ok(None),
-        Ask::CancelAll { .. } => Ok(None),
         Ask::Txn { lease } => Ok(refuse_begin(state, lease)),
         Ask::Commit { txn } => Ok(refuse_commit(state, session, txn)),
         Ask::Abort { txn } => Ok(refuse_transaction(state, txn)),
         Ask::State { txn } => Ok(refuse_transaction(state, txn)),
         Ask::Reset { space } => Ok(refuse_reset(state, space.as_str())),
-        Ask::Spaces => Ok(None),
-        Ask::Bye => Ok(None),
-        Ask::Hello { .. } => Ok(None),
         Ask::WriteAll(write) => Ok(refuse_entries(state, write)),
         Ask::TakeMany(search) => refuse_many(alloc, state, session, id, search),
         Ask::Contents(contents) => Ok(refuse_contents(state, session, id, contents)),
@@ -106,102 +101,47 @@ fn own_refusal(
     }
 }
 
-/// Makes what a request changes that isn't refused, whole or not at all.
+/// Makes what a request changes that isn't refused and is for no rows, whole or not at all.
 pub fn accept(
     alloc: Global,
     state: &mut Core,
     session: u64,
     id: u64,
     ask: &Ask,
-    rows: &[u64],
 ) -> Result<(), NoMemory>
     requires time { state.old.time ≤ LAST_TIME }
     requires numbers { state.old.next_number ≤ LAST_NUMBER + 1 }
-    requires rows { IsTrue (are_rising 0 state.old.next_number (map (λ r. r.number) state.old.rows)) }
-    requires crashes { IsTrue (list_all (λ p. nat_le p.crash_count LAST_CRASH_COUNT) state.old.spaces) }
-    requires fits { IsTrue (has_fitting_parts ask.now) }
-    requires accepted { refusal_of state.old session id ask.now ≡ None }
-    requires given { has_its_rows state.old session id rows.now None (rows_asked ask.now) ≡ true }
-    ensures ok { OnOk result (state.new ≡ accepted state.old session id rows.now ask.now) }
-    ensures err { OnErr result (state.new ≡ state.old) }
-{
-    make(alloc, state, session, id, ask, rows)
-}
-
-fn make(
-    alloc: Global,
-    state: &mut Core,
-    session: u64,
-    id: u64,
-    ask: &Ask,
-    rows: &[u64],
-) -> Result<(), NoMemory>
-    requires time { state.old.time ≤ LAST_TIME }
-    requires numbers { state.old.next_number ≤ LAST_NUMBER + 1 }
-    requires rows { IsTrue (are_rising 0 state.old.next_number (map (λ r. r.number) state.old.rows)) }
     requires crashes { IsTrue (list_all (λ p. nat_le p.crash_count LAST_CRASH_COUNT) state.old.spaces) }
     requires fits { IsTrue (has_fitting_parts ask.now) }
     requires accepted { first_that (own_tests state.old session id ask.now) ≡ None }
-    requires given { has_its_rows state.old session id rows.now None (rows_asked ask.now) ≡ true }
-    ensures ok { OnOk result (state.new ≡ accepted state.old session id rows.now ask.now) }
+    requires plain { rows_asked ask.now ≡ None }
+    ensures ok { OnOk result (state.new ≡ accepted state.old session id [] ask.now) }
     ensures err { OnErr result (state.new ≡ state.old) }
 {
     match ask {
-        Ask::Declare(declare) => accept_declare(alloc, state, declare),
-        Ask::Write(write) => accept_entry(alloc, state, write),
-        Ask::Read(search) => accept_one(alloc, state, session, id, rows, Form::Read, search),
-        Ask::ReadIf(search) => accept_one(alloc, state, session, id, rows, Form::ReadIf, search),
-        Ask::Take(search) => accept_one(alloc, state, session, id, rows, Form::Take, search),
-        Ask::TakeIf(search) => accept_one(alloc, state, session, id, rows, Form::TakeIf, search),
-        Ask::Notify(notify) => accept_notify(alloc, state, session, id, notify),
-        Ask::Renew { lease, ms } => {
-            accept_renew(state, lease, ms);
-            Ok(())
+        Ask::Declare(declare) => return accept_declare(alloc, state, declare),
+        Ask::Write(write) => return accept_entry(alloc, state, write),
+        Ask::WriteAll(write) => return accept_entries(alloc, state, write),
+        Ask::Read(_) | Ask::ReadIf(_) | Ask::Take(_) | Ask::TakeIf(_) | Ask::TakeMany(_) => {
+            unreachable!()
         }
-        Ask::Cancel { lease } => {
-            accept_cancel(state, lease);
-            Ok(())
-        }
-        Ask::RenewAll { leases } => {
-            accept_renew_all(state, leases.as_slice());
-            Ok(())
-        }
-        Ask::CancelAll { leases } => {
-            accept_cancel_all(state, leases.as_slice());
-            Ok(())
-        }
-        Ask::Txn { lease } => accept_txn(alloc, state, lease),
-        Ask::Commit { txn } => ask_commit(state, session, id, named(*txn)),
-        Ask::Abort { txn } => {
-            abort(state, named(*txn));
-            Ok(())
-        }
-        Ask::State { .. } => Ok(()),
-        Ask::Reset { space } => {
-            reset(state, place_of(state, space.as_str()));
-            Ok(())
-        }
-        Ask::Spaces => Ok(()),
-        Ask::Bye => {
-            close(state, session);
-            Ok(())
-        }
-        Ask::Hello { version } => {
-            set_version(state, session, *version);
-            Ok(())
-        }
-        Ask::WriteAll(write) => accept_entries(alloc, state, write),
-        Ask::TakeMany(search) => accept_many(alloc, state, session, id, rows, search),
-        Ask::Contents(contents) => accept_contents(alloc, state, session, id, contents),
-        Ask::Next { set, most } => {
-            turn_page(state, set, most);
-            Ok(())
-        }
-        Ask::CloseSet { set } => {
-            close_set(state, named(*set));
-            Ok(())
-        }
+        Ask::Notify(notify) => return accept_notify(alloc, state, session, id, notify),
+        Ask::Contents(contents) => return accept_contents(alloc, state, session, id, contents),
+        Ask::Next { set, most } => turn_page(state, set, most),
+        Ask::CloseSet { set } => close_set(state, named(*set)),
+        Ask::Renew { lease, ms } => accept_renew(state, lease, ms),
+        Ask::Cancel { lease } => accept_cancel(state, lease),
+        Ask::RenewAll { leases } => accept_renew_all(state, leases.as_slice()),
+        Ask::CancelAll { leases } => accept_cancel_all(state, leases.as_slice()),
+        Ask::Txn { lease } => return accept_txn(alloc, state, lease),
+        Ask::Commit { txn } => return ask_commit(state, session, id, named(*txn)),
+        Ask::Abort { txn } => abort(state, named(*txn)),
+        Ask::Reset { space } => reset(state, place_of(state, space.as_str())),
+        Ask::Hello { version } => set_version(state, session, *version),
+        Ask::Bye => close(state, session),
+        Ask::State { .. } | Ask::Spaces => {}
     }
+    Ok(())
 }
 
 fn accept_txn(alloc: Global, state: &mut Core, lease: &i64) -> Result<(), NoMemory>
@@ -214,52 +154,42 @@ fn accept_txn(alloc: Global, state: &mut Core, lease: &i64) -> Result<(), NoMemo
     Ok(())
 }
 
-/// What a request that isn't refused is answered, where it is answered at once.
+/// What a request that isn't refused and is for no rows is answered, where it is answered at once.
 pub fn answer(
     alloc: Global,
     state: &Core,
     session: u64,
     id: u64,
     ask: &Ask,
-    rows: &[u64],
-) -> Result<Option<Reply>, NoMemory>
-    requires time { state.now.time ≤ LAST_TIME }
-    requires numbers { state.now.next_number ≤ LAST_NUMBER + 1 }
-    requires bearers { (n : ℕ) → bearers state.now n ≤ 1 }
-    requires fits { IsTrue (has_fitting_parts ask.now) }
-    requires accepted { refusal_of state.now session id ask.now ≡ None }
-    requires given { has_its_rows state.now session id rows.now None (rows_asked ask.now) ≡ true }
-    ensures { IfOk result (λ r. option_to_list r ≡ answer_of state.now session id rows.now ask.now) }
-{
-    own_answer(alloc, state, session, id, ask, rows)
-}
-
-fn own_answer(
-    alloc: Global,
-    state: &Core,
-    session: u64,
-    id: u64,
-    ask: &Ask,
-    rows: &[u64],
 ) -> Result<Option<Reply>, NoMemory>
     requires time { state.now.time ≤ LAST_TIME }
     requires numbers { state.now.next_number ≤ LAST_NUMBER + 1 }
     requires bearers { (n : ℕ) → bearers state.now n ≤ 1 }
     requires fits { IsTrue (has_fitting_parts ask.now) }
     requires accepted { first_that (own_tests state.now session id ask.now) ≡ None }
-    requires given { has_its_rows state.now session id rows.now None (rows_asked ask.now) ≡ true }
-    ensures { IfOk result (λ r. option_to_list r ≡ answer_of state.now session id rows.now ask.now) }
+    requires plain { rows_asked ask.now ≡ None }
+    ensures { IfOk result (λ r. option_to_list r ≡ answer_of state.now session id [] ask.now) }
 {
     match ask {
-        Ask::Declare(_) => Ok(Some(Reply::Done { id })),
+        Ask::Declare(_)
+        | Ask::Cancel { .. }
+        | Ask::Abort { .. }
+        | Ask::Reset { .. }
+        | Ask::CloseSet { .. }
+        | Ask::Hello { .. }
+        | Ask::Bye => Ok(Some(Reply::Done { id })),
         Ask::Write(write) => Ok(Some(answer_leased(state, id, &write.lease))),
-        Ask::Read(search) => answer_one(alloc, state, session, id, rows, Form::Read, search),
-        Ask::ReadIf(search) => answer_one(alloc, state, session, id, rows, Form::ReadIf, search),
-        Ask::Take(search) => answer_one(alloc, state, session, id, rows, Form::Take, search),
-        Ask::TakeIf(search) => answer_one(alloc, state, session, id, rows, Form::TakeIf, search),
+        Ask::WriteAll(write) => answer_entries(alloc, state, id, write),
+        Ask::Read(_) | Ask::ReadIf(_) | Ask::Take(_) | Ask::TakeIf(_) | Ask::TakeMany(_) => {
+            unreachable!()
+        }
         Ask::Notify(notify) => Ok(Some(answer_leased(state, id, &notify.lease))),
+        Ask::Contents(contents) => Ok(Some(answer_leased(state, id, &contents.lease))),
+        Ask::Next { set, most } => {
+            let page = answer_next(alloc, state, id, named(*set), *most)?;
+            Ok(Some(page))
+        }
         Ask::Renew { lease, ms } => Ok(Some(answer_renew(id, lease, ms))),
-        Ask::Cancel { .. } => Ok(Some(Reply::Done { id })),
         Ask::RenewAll { leases } => {
             let items = renew_answers(alloc, state, leases.as_slice())?;
             Ok(Some(Reply::Leases { id, items }))
@@ -270,26 +200,14 @@ fn own_answer(
         }
         Ask::Txn { lease } => Ok(Some(answer_leased(state, id, lease))),
         Ask::Commit { .. } => Ok(None),
-        Ask::Abort { .. } => Ok(Some(Reply::Done { id })),
         Ask::State { txn } => Ok(Some(Reply::State {
             id,
             state: state_of(state, txn),
         })),
-        Ask::Reset { .. } => Ok(Some(Reply::Done { id })),
         Ask::Spaces => {
             let names = names_of(alloc, state)?;
             Ok(Some(Reply::Names { id, names }))
         }
-        Ask::Bye => Ok(Some(Reply::Done { id })),
-        Ask::Hello { .. } => Ok(Some(Reply::Done { id })),
-        Ask::WriteAll(write) => answer_entries(alloc, state, id, write),
-        Ask::TakeMany(search) => answer_many(alloc, state, session, id, rows, search),
-        Ask::Contents(contents) => Ok(Some(answer_leased(state, id, &contents.lease))),
-        Ask::Next { set, most } => {
-            let page = answer_next(alloc, state, id, named(*set), *most)?;
-            Ok(Some(page))
-        }
-        Ask::CloseSet { .. } => Ok(Some(Reply::Done { id })),
     }
 }
 
@@ -335,40 +253,4 @@ fn numbers_of(alloc: Global, leases: &[i64]) -> Result<Vec<u64>, NoMemory>
         numbers.push(named(*lease))?;
     }
     Ok(numbers)
-}
-
-/// The request for rows as it would wait, if the request is for rows.
-pub fn request_for_rows(
-    alloc: Global,
-    state: &Core,
-    session: u64,
-    id: u64,
-    ask: &Ask,
-) -> Result<Option<Blocked>, NoMemory>
-    requires time { state.now.time ≤ LAST_TIME }
-    requires accepted { refusal_of state.now session id ask.now ≡ None }
-    ensures { IfOk result (λ o. o ≡ option_map (waiting_as state.now session id) (rows_asked ask.now)) }
-{
-    waiting_request(alloc, state, session, id, ask)
-}
-
-fn waiting_request(
-    alloc: Global,
-    state: &Core,
-    session: u64,
-    id: u64,
-    ask: &Ask,
-) -> Result<Option<Blocked>, NoMemory>
-    requires time { state.now.time ≤ LAST_TIME }
-    requires accepted { first_that (own_tests state.now session id ask.now) ≡ None }
-    ensures { IfOk result (λ o. o ≡ option_map (waiting_as state.now session id) (rows_asked ask.now)) }
-{
-    match ask {
-        Ask::Read(search) => waiting_one(alloc, state, session, id, Form::Read, search),
-        Ask::ReadIf(search) => waiting_one(alloc, state, session, id, Form::ReadIf, search),
-        Ask::Take(search) => waiting_one(alloc, state, session, id, Form::Take, search),
-        Ask::TakeIf(search) => waiting_one(alloc, state, session, id, Form::TakeIf, search),
-        Ask::TakeMany(search) => waiting_many(alloc, state, session, id, search),
-        _ => Ok(None),
-    }
 }

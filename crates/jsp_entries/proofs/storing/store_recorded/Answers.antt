@@ -1,8 +1,7 @@
-use Rattle.std.proofs.Common.{◌≡◌, ◌∙◌, List, map, ap}
+use Rattle.std.proofs.Common.{◌∙◌, List, map, ap}
 use Rattle.jsp_model.specs.declared.state.Registration.{Registration}
 use Rattle.jsp_notify.specs.declared.news.News.{News}
 use Rattle.jsp_notify.specs.News.{hearing}
-use Rattle.jsp_notify.specs.Hearing.{all_of}
 use Rattle.jsp_entries.proofs.storing.store_recorded.Goals as goal
 
 pub returns-clause-owed_stay : goal.returns-clause-owed_stay

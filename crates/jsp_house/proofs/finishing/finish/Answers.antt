@@ -6,7 +6,7 @@ use Rattle.jsp_model.specs.Steps.{is_legal, next}
 use Rattle.jsp_model.specs.Touches.{touches}
 use Rattle.jsp_house.specs.Making.{KeepsLog}
 use Rattle.jsp_quiet.proofs.Falls.{free_falls}
-use Rattle.jsp_machine.proofs.Judging.{unasked_unrefused}
+use Rattle.jsp_machine.proofs.JudgedRequests.{unasked_plain}
 use Rattle.jsp_house.proofs.Going.{goes_start, goes_none, goes_more, falls_to, some_undone}
 use Rattle.jsp_house.proofs.Logging.{keeps_none, keeps_both}
 use Rattle.jsp_house.proofs.finishing.finish.Goals as goal
@@ -18,8 +18,8 @@ steps-init g c = (
   λ d. (refl, refl, refl),
 )
 
-pub make_owing-requires-clause-refused : goal.make_owing-requires-clause-refused
-make_owing-requires-clause-refused g c = unasked_unrefused c.next_step.new.image c.in-Some.step (rw c.in-Some.is at c.in_ok-step.ensures.unasked)
+pub make_owing-requires-clause-judged : goal.make_owing-requires-clause-judged
+make_owing-requires-clause-judged g c = unasked_plain c.next_step.new.image c.in-Some.step (rw c.in-Some.is at c.in_ok-step.ensures.unasked)
 
 pub steps-smaller : goal.steps-smaller
 steps-smaller g c =

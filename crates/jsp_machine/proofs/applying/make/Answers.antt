@@ -5,8 +5,8 @@ use Rattle.jsp_model.specs.Steps.{change}
 use Rattle.jsp_model.specs.Limits.{IsWithinLimits}
 use Rattle.jsp_model.specs.Outboxes.{post}
 use Rattle.jsp_machine.specs.Changing.{has_its_choice}
-use Rattle.jsp_machine.specs.Judging.{refusal_in}
-use Rattle.jsp_machine.proofs.Judging.{judged_apart}
+use Rattle.jsp_machine.specs.Judging.{judged_in}
+use Rattle.jsp_machine.proofs.JudgedRequests.{judged_apart}
 use Rattle.jsp_machine.proofs.Chosen.{choice_apart, legal_choice}
 use Rattle.jsp_machine.proofs.Stepping.{limits_posted, step_made}
 use Rattle.jsp_machine.proofs.applying.make.Goals as goal
@@ -22,10 +22,10 @@ change-requires-clause-choice c =
     ap (λ (w : State). has_its_choice w c.args.step.now) c.in_ok-posts.ensures.ok
     ∙ (choice_apart (fold post st.outboxes c.args.sayings.items) st c.args.step.now ∙ legal_choice st c.args.step.now c.requires.legal)
 
-pub change-requires-clause-refused : goal.change-requires-clause-refused
-change-requires-clause-refused c =
+pub change-requires-clause-judged : goal.change-requires-clause-judged
+change-requires-clause-judged c =
     let st = c.args.state.now in
-    c.requires.refused ∙ sym (ap (λ (w : State). refusal_in w c.args.step.now) c.in_ok-posts.ensures.ok ∙ judged_apart (fold post st.outboxes c.args.sayings.items) st c.args.step.now)
+    c.requires.judged ∙ sym (ap (λ (w : State). judged_in w c.args.step.now) c.in_ok-posts.ensures.ok ∙ judged_apart (fold post st.outboxes c.args.sayings.items) st c.args.step.now)
 
 pub returns-clause-ok : goal.returns-clause-ok
 returns-clause-ok c =

@@ -1,4 +1,4 @@
-use Rattle.std.proofs.Common.{◌≡◌, ◌||◌, ℕ, List, not, take, true, subst, arith}
+use Rattle.std.proofs.Common.{◌≡◌, ◌||◌, ℕ, List, not, true, subst, arith}
 use Rattle.std.specs.List.{list_all}
 use Rattle.std.proofs.lemmas.List.{take_all}
 use Rattle.jsp_model.specs.declared.state.Row.{Row}

@@ -1,8 +1,8 @@
-use Rattle.std.proofs.Common.{ℕ, List, ℤ, Bool, true, not, ◌≡◌, ◌||◌, false, ◌==◌, subst}
+use Rattle.std.proofs.Common.{List, ℤ, true, not, ◌≡◌, ◌||◌, false, ◌==◌, subst}
 use Rattle.std.specs.List.{list_all}
 use Rattle.std.specs.Option.{option_map_or}
 use Rattle.jsp_model.specs.declared.state.Row.{Row}
-use Rattle.jsp_machine.specs.Unmarking.{is_unmarked, cancelled, is_touched_by}
+use Rattle.jsp_machine.specs.Unmarking.{is_unmarked, is_touched_by}
 use Rattle.jsp_machine.specs.Stirring.{are_named_for}
 use Rattle.jsp_machine.proofs.Stirred.{is_named_once}
 use Rattle.jsp_machine.proofs.stirring.stir_let_go.Goals as goal

@@ -1,4 +1,0 @@
-use Rattle.jsp_requests.proofs.ask.make.Goals as goal
-
-pub returns-in-Next-clause-ok : goal.returns-in-Next-clause-ok
-returns-in-Next-clause-ok c = rw c.in-Next.is c.turn_page.ensures
