@@ -10,8 +10,7 @@ ghost use Rattle.jsp_state.specs.Fitting.{AllFit};
 use jsp_core::Core;
 use jsp_reply::Refusal;
 use jsp_types::{
-    Classes, Entry, EntryError, Items, NoMemory, Raw, Template, check_entry, check_template,
-    entry_fault,
+    Classes, Entry, Items, NoMemory, Raw, Template, entry_fault, fill_entry, fill_template,
 };
 use std::alloc::Global;
 
@@ -20,10 +19,11 @@ use std::alloc::Global;
 pub fn entries_refusal(state: &Core, raws: &[Raw]) -> Option<Refusal>
     ensures { result ≡ first_that (entry_tests state.now raws.now) }
 {
-    if any_lacks_class(&state.classes, raws) {
-        return Some(Refusal::UnknownClass);
-    }
+    // Most have no fault, so their classes are looked up once.
     if any_has_fault(&state.classes, raws) {
+        if any_lacks_class(&state.classes, raws) {
+            return Some(Refusal::UnknownClass);
+        }
         return Some(Refusal::BadEntry);
     }
     None
@@ -57,10 +57,10 @@ fn has_fault(classes: &Classes, raw: &Raw) -> bool
 pub fn templates_refusal(state: &Core, templates: &[Option<Raw>]) -> Option<Refusal>
     ensures { result ≡ first_that (template_tests state.now templates.now) }
 {
-    if any_template_lacks_class(&state.classes, templates) {
-        return Some(Refusal::UnknownClass);
-    }
     if any_template_has_fault(&state.classes, templates) {
+        if any_template_lacks_class(&state.classes, templates) {
+            return Some(Refusal::UnknownClass);
+        }
         return Some(Refusal::BadEntry);
     }
     None
@@ -105,11 +105,7 @@ pub fn entry_of(alloc: Global, classes: &Classes, raw: &Raw) -> Result<Entry, No
     requires { fault_of classes.now raw.now ≡ None }
     ensures { IfOk result (λ e. e ≡ entry_asked classes.now raw.now) }
 {
-    match check_entry(alloc, classes, raw) {
-        Ok(entry) => Ok(entry),
-        Err(EntryError::NoMemory) => Err(NoMemory),
-        Err(EntryError::Fault(_)) => unreachable!(),
-    }
+    fill_entry(alloc, classes, raw)
 }
 
 /// The templates of a request that isn't refused, in their order.
@@ -137,9 +133,5 @@ pub fn template_of(
     requires { template_fault classes.now template.now ≡ None }
     ensures { IfOk result (λ t. t ≡ template_asked classes.now template.now) }
 {
-    match check_template(alloc, classes, template.as_ref()) {
-        Ok(template) => Ok(template),
-        Err(EntryError::NoMemory) => Err(NoMemory),
-        Err(EntryError::Fault(_)) => unreachable!(),
-    }
+    fill_template(alloc, classes, template.as_ref())
 }

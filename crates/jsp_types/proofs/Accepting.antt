@@ -9,11 +9,14 @@ use Rattle.jsp_types.specs.declared.value.Kind.{Kind}
 use Rattle.jsp_types.specs.declared.value.Value.{Value}
 use Rattle.jsp_types.specs.declared.class.Class.{Class}
 use Rattle.jsp_types.specs.declared.entry.Raw.{Raw}
+use Rattle.jsp_types.specs.declared.entry.Entry.{Entry}
+use Rattle.jsp_types.specs.declared.entry.EntryFault.TheVariants.{UnknownClass}
 use Rattle.jsp_types.specs.declared.known.Known.{Known}
 use Rattle.jsp_types.specs.Known.{IsKeptOf}
-use Rattle.jsp_types.specs.Classes.{is_declared, are_distinct, fields_of, declared_fields, is_within_limits}
+use Rattle.jsp_types.specs.Classes.{class_named, is_declared, are_distinct, fields_of, declared_fields, is_within_limits}
 use Rattle.jsp_types.specs.Matching.{value_at, text_size, entry_of, is_bad, entry_fault, is_small}
-use Rattle.jsp_types.specs.Checking.{is_field_among, filled, is_bad_for, IsAccepted}
+use Rattle.jsp_types.specs.Checking.{is_field_among, filled, filled_entry, is_bad_for, IsAccepted}
+use Rattle.jsp_types.proofs.Finding.{kept_name}
 
 -- what is kept of a declared class has its fields
 pub kept_fields : (classes : List Class) (name : List ℕ) (known : Known) → IsKeptOf classes name known → Some known.fields ≡ declared_fields classes name
@@ -62,3 +65,24 @@ accepted classes raw name fields given bad same_name same_given same within test
       unrefused = unrefused classes raw known.0 good_here;
       within_limits = small_entry classes raw within_here good_here;
     }
+
+-- ---- an entry that isn't refused
+
+unknown_refused : (classes : List Class) (raw : Raw) → class_named classes raw.class ≡ None → entry_fault classes raw ≡ Some UnknownClass
+unknown_refused classes raw none = rw none refl
+
+pub known_unless_refused : (classes : List Class) (raw : Raw) (name : List ℕ) → entry_fault classes raw ≡ None → name ≡ raw.class → class_named classes name ≡ None → ⊥
+known_unless_refused classes raw name good same none =
+    let refused = unknown_refused classes raw (sym (ap (class_named classes) same) ∙ none) in
+    let no : Some UnknownClass ≡ None = sym refused ∙ good in
+    absurd (cc (no))
+
+abbrev filled_with : List ℕ → List (List ℕ × Kind) → Raw → Entry
+filled_with class fields raw = record { class = class; fields = filled fields raw.fields }
+
+-- what is filled by what is kept of its class is the entry
+pub filled_is : (classes : List Class) (raw : Raw) (name : List ℕ) (known : Known) → IsKeptOf classes name known → name ≡ raw.class → filled_entry known raw ≡ entry_of classes raw
+filled_is classes raw name known h same =
+    let class : known.class.name ≡ raw.class = kept_name classes name known h ∙ same in
+    let fields : known.fields ≡ fields_of classes raw.class = h.fields ∙ ap (fields_of classes) same in
+    ap (λ c. filled_with c known.fields raw) class ∙ ap (λ fs. filled_with raw.class fs raw) fields

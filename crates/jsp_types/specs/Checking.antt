@@ -5,7 +5,9 @@ use Rattle.std.specs.Option.{option_map_or}
 use Rattle.jsp_types.specs.declared.value.Kind.{Kind}
 use Rattle.jsp_types.specs.declared.value.Value.{Value}
 use Rattle.jsp_types.specs.declared.class.Class.{Class}
+use Rattle.jsp_types.specs.declared.entry.Entry.{Entry}
 use Rattle.jsp_types.specs.declared.entry.Raw.{Raw}
+use Rattle.jsp_types.specs.declared.known.Known.{Known}
 use Rattle.jsp_types.specs.Classes.{are_distinct, fields_of}
 use Rattle.jsp_types.specs.Matching.{has_kind, value_at, text_size, entry_of, entry_fault, is_small}
 
@@ -16,6 +18,10 @@ is_field_among fields given = option_map_or (λ g. has_kind given.1 g.1) (find (
 -- these fields, each with the value given for it
 abbrev pub filled : List (List ℕ × Kind) → List (List ℕ × Value) → List (List ℕ × Value)
 filled fields given = map (λ f. (f.0, value_at given f.0)) fields
+
+-- the entry of this class
+abbrev pub filled_entry : Known → Raw → Entry
+filled_entry known raw = record { class = known.class.name; fields = filled known.fields raw.fields }
 
 -- a name stands twice, one isn't a field, a value is of another kind, or there is too much text
 abbrev pub is_bad_for : List (List ℕ × Kind) → List (List ℕ × Value) → Bool

@@ -3,7 +3,7 @@ ghost use Rattle.std.specs.Prelude.{◌≡◌, nat_le, sum_by, find, bytes_eq, N
 ghost use Rattle.std.specs.List.{list_all};
 ghost use Rattle.std.specs.Option.{option_map_or};
 ghost use Rattle.jsp_types.specs.Matching.{text_len, value_at, entry_of, entry_fault, template_of, template_fault, is_small, is_small_template};
-ghost use Rattle.jsp_types.specs.Checking.{is_field_among, filled, is_bad_for, IsAccepted};
+ghost use Rattle.jsp_types.specs.Checking.{is_field_among, filled, filled_entry, is_bad_for, IsAccepted};
 
 use crate::known::Known;
 use crate::matching::find_value;
@@ -148,10 +148,44 @@ pub fn check_entry(alloc: Global, classes: &Classes, raw: &Raw) -> Result<Entry,
         ≡ option_map_or EntryError.Fault (entry_fault classes.now raw.now) EntryError.NoMemory) }
 {
     let known = accepting(classes, raw)?;
+    let entry = entry_with(alloc, known, raw)?;
+    Ok(entry)
+}
+
+/// The entry of this class, with null for each field that isn't given.
+fn entry_with(alloc: Global, known: &Known, raw: &Raw) -> Result<Entry, NoMemory>
+    ensures { IfOk result (λ entry. entry ≡ filled_entry known.now raw.now) }
+{
     // The names as they were declared, whose bytes all entries of the class share.
     let class = known.class.name.clone()?;
     let fields = filled(alloc, known.fields.as_slice(), raw.fields.as_slice())?;
     Ok(Entry { class, fields })
+}
+
+/// An entry that isn't refused, with null for each field that isn't given. It isn't checked again.
+pub fn fill_entry(alloc: Global, classes: &Classes, raw: &Raw) -> Result<Entry, NoMemory>
+    requires { entry_fault classes.now raw.now ≡ None }
+    ensures { IfOk result (λ entry. entry ≡ entry_of classes.now raw.now) }
+{
+    match classes.known(raw.class.as_str()) {
+        None => unreachable!(),
+        Some(known) => entry_with(alloc, known, raw),
+    }
+}
+
+/// A template that isn't refused, with null for each field that isn't given. It isn't checked again.
+pub fn fill_template(
+    alloc: Global,
+    classes: &Classes,
+    raw: Option<&Raw>,
+) -> Result<Template, NoMemory>
+    requires { template_fault classes.now (option_copied raw) ≡ None }
+    ensures { IfOk result (λ template. template ≡ template_of classes.now (option_copied raw.entry)) }
+{
+    match raw {
+        None => Ok(Template::Any),
+        Some(raw) => Ok(Template::Like(fill_entry(alloc, classes, raw)?)),
+    }
 }
 
 /// The template, with null for each field that isn't given, or why it is refused

@@ -27,7 +27,9 @@ mod sorting;
 mod text;
 mod value;
 
-pub use checking::{check_entry, check_template, entry_fault, template_fault};
+pub use checking::{
+    check_entry, check_template, entry_fault, fill_entry, fill_template, template_fault,
+};
 pub use class::{Class, ClassFault, DeclareError};
 pub use classes::Classes;
 pub use declaring::MOST_FIELDS;

@@ -3,8 +3,13 @@ use Rattle.std.specs.Prelude.{◌||◌}
 use Rattle.std.specs.List.{list_any}
 use Rattle.jsp_types.specs.Matching.{is_unknown, is_bad}
 use Rattle.jsp_model.specs.declared.state.State.{State}
-use Rattle.jsp_state.proofs.Fitting.{any_or, has_fault, has_none}
+use Rattle.jsp_state.proofs.Fitting.{any_or, lacks_class, has_fault, has_none}
 use Rattle.jsp_state.proofs.entries.entries_refusal.Goals as goal
+
+pub returns-then-any_lacks_class : goal.returns-then-any_lacks_class
+returns-then-any_lacks_class c =
+    let lacks = subst (λ (st : State). c.any_lacks_class.result ≡ list_any (is_unknown st.classes) c.args.raws.now) c.state.view_is c.any_lacks_class.ensures in
+    lacks_class _ _ (sym lacks ∙ c.if-any_lacks_class.true)
 
 pub returns-then-any_has_fault : goal.returns-then-any_has_fault
 returns-then-any_has_fault c =
